@@ -1,0 +1,19 @@
+-- Reachability in a store that has changed.
+use Prim.Native.Nat.{ℕ}
+use mathlib.Core.Logic.{_⊎_, inl, inr}
+use Rattle.model.specs.Lawful.{From}
+use Rattle.model.specs.Lawful.From.{here, along}
+
+-- more to start from, and as many links to go along
+pub from-more :
+    {P Q : ℕ → Type 0} {To On : ℕ → ℕ → Type 0} → ((r : ℕ) → P r → Q r) → ((r t : ℕ) → To r t → On r t) →
+    {r : ℕ} → From P To r → From Q On r
+from-more p o (here a) = here (p _ a)
+from-more p o (along f l) = along (from-more p o f) (o _ _ l)
+
+-- starting points of two sorts
+pub from-either :
+    {P Q R : ℕ → Type 0} {To : ℕ → ℕ → Type 0} → ((r : ℕ) → P r → Q r ⊎ R r) →
+    {r : ℕ} → From P To r → From Q To r ⊎ From R To r
+from-either p (here a) = elim (p _ a) [ inl q ↦ inl (here q) | inr q ↦ inr (here q) ]
+from-either p (along f l) = elim (from-either p f) [ inl q ↦ inl (along q l) | inr q ↦ inr (along q l) ]

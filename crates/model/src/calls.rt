@@ -1,0 +1,22 @@
+// The calls on a store, and what they answer.
+use crate::refusals::Refusal;
+
+// One call with its arguments as they came: any numbers at all.
+#[derive(Clone, Copy)]
+pub enum Call {
+    Make,
+    // record
+    Hold(usize),
+    // record, byte, value
+    Byte(usize, usize, u8),
+    // record, byte
+    Look(usize, usize),
+    Tally,
+}
+
+#[derive(Clone, Copy)]
+pub enum Reply {
+    Number(usize),
+    Done,
+    Refused(Refusal),
+}
