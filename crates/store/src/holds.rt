@@ -1,8 +1,9 @@
 // Make and hold.
+ghost use Prim.Native.Nat.{_≤_};
 ghost use mathlib.Core.Bool.{true};
 ghost use mathlib.Core.Path.{_≡_};
 ghost use Rattle.std.specs.Results.{isErr};
-ghost use Rattle.model.specs.Calls.{make, hold};
+ghost use Rattle.model.specs.Calls.{make, taken, hold, «hold-more», «is-held»};
 ghost use Rattle.store.specs.Replies.{numbered, leaving};
 ghost use Rattle.store.specs.View.{view, LawfulStore, Same};
 use crate::changes::held_more;
@@ -24,10 +25,21 @@ impl<'a, K: Kind> Store<'a, K> {
         if r == 0 {
             return Err(Refusal::Full);
         }
+        self.take_front();
+        Ok(r)
+    }
+
+    // Takes the front of the free chain into use.
+    fn take_front(&mut self)
+        requires lawful { ⌜ LawfulStore K·Kind (now self) ⌝ }
+        requires some { ⌜ 1 ≤ now self .front ⌝ }
+        ensures after { λ _. ⌜ view K·Kind (now (self .exit)) ≡ taken (view K·Kind (now (self .entry))) (now (self .entry) .front) ⌝ }
+        ensures lawful { λ _. ⌜ LawfulStore K·Kind (now (self .exit)) ⌝ }
+    {
+        let r = self.front;
         let next = self.head(r).next;
         self.set_head(r, made());
         self.front = next as usize;
-        Ok(r)
     }
 
     // One more hold on a held record, which is raised for it.
@@ -40,6 +52,17 @@ impl<'a, K: Kind> Store<'a, K> {
         if !self.is_held(r) {
             return Err(Refusal::NotHeld);
         }
+        self.add_hold(r)
+    }
+
+    // One more hold, unless the record has the most that are allowed.
+    pub(crate) fn add_hold(&mut self, r: usize) -> Result<usize, Refusal>
+        requires lawful { ⌜ LawfulStore K·Kind (now self) ⌝ }
+        requires held { ⌜ «is-held» (view K·Kind (now self)) r ≡ true ⌝ }
+        ensures answer { λ a. ⌜ leaving (numbered a) (view K·Kind (now (self .exit))) ≡ «hold-more» (view K·Kind (now (self .entry))) r ⌝ }
+        ensures lawful { λ _. ⌜ LawfulStore K·Kind (now (self .exit)) ⌝ }
+        ensures untouched { λ a. ⌜ (isErr a ≡ true → Same (now (self .entry)) (now (self .exit))) ⌝ }
+    {
         let head = self.head(r);
         if head.holds >= 1000 {
             return Err(Refusal::TooManyHolds);

@@ -5,7 +5,7 @@ mod changes;
 mod fills;
 mod holds;
 mod looks;
-mod makes;
+pub mod makes;
 mod performs;
 pub mod plays;
 pub mod table;

@@ -1,0 +1,89 @@
+// From a line to the call that it means.
+ghost use mathlib.Core.Path.{_≡_};
+ghost use mathlib.Core.List.{_∷_};
+ghost use Rattle.keyboard.specs.Lines.{none as «no-number», one as «one-number», two as «two-numbers», three as «three-numbers», form, meaning};
+ghost use Rattle.keyboard.specs.Splits.{left};
+ghost use Rattle.keyboard.specs.Names.{«name-of»};
+use crate::forms::Form;
+use crate::words::Words;
+use model::calls::Call;
+
+// No word more.
+fn none(mut words: Words<'_>) -> Option<()>
+    ensures value { λ r. ⌜ r ≡ «no-number» (left (words .entry)) ⌝ }
+{
+    match words.next() {
+        None => Some(()),
+        Some(_) => None,
+    }
+}
+
+// One number and no word more.
+fn one(mut words: Words<'_>) -> Option<usize>
+    ensures value { λ r. ⌜ r ≡ «one-number» (left (words .entry)) ⌝ }
+{
+    let a = words.number()?;
+    none(words)?;
+    Some(a)
+}
+
+// Two numbers and no word more.
+fn two(mut words: Words<'_>) -> Option<(usize, usize)>
+    ensures value { λ r. ⌜ r ≡ «two-numbers» (left (words .entry)) ⌝ }
+{
+    let a = words.number()?;
+    let b = one(words)?;
+    Some((a, b))
+}
+
+// Three numbers and no word more.
+fn three(mut words: Words<'_>) -> Option<(usize, usize, usize)>
+    ensures value { λ r. ⌜ r ≡ «three-numbers» (left (words .entry)) ⌝ }
+{
+    let a = words.number()?;
+    let (b, c) = two(words)?;
+    Some((a, b, c))
+}
+
+// The call of a form, from the words after its command word.
+fn call(kind: Form, words: Words<'_>) -> Option<Call>
+    ensures value { λ r. ⌜ r ≡ form («name-of» kind ∷ left (words .entry)) ⌝ }
+{
+    match kind {
+        Form::Make => {
+            none(words)?;
+            Some(Call::Make)
+        }
+        Form::Hold => {
+            let record = one(words)?;
+            Some(Call::Hold(record))
+        }
+        Form::Byte => {
+            let (record, byte, value) = three(words)?;
+            if value > 255 {
+                return None;
+            }
+            Some(Call::Byte(record, byte, value as u8))
+        }
+        Form::Look => {
+            let (record, byte) = two(words)?;
+            Some(Call::Look(record, byte))
+        }
+        Form::Tally => {
+            none(words)?;
+            Some(Call::Tally)
+        }
+    }
+}
+
+// The call that a line means. None where the line is outside the forms, or has more than 80 bytes.
+pub fn command(line: &[u8]) -> Option<Call>
+    ensures value { λ r. ⌜ r ≡ meaning (now (line .entry)) ⌝ }
+{
+    if line.len() > 80 {
+        return None;
+    }
+    let mut words = Words::new(line);
+    let kind = words.form()?;
+    call(kind, words)
+}

@@ -1,0 +1,28 @@
+// The forms of a line, told apart by their command words.
+ghost use Rattle.std.specs.Options.{Cases};
+ghost use Rattle.keyboard.specs.Names.{Names, Nameless};
+
+#[derive(Clone, Copy)]
+pub enum Form {
+    Make,
+    Hold,
+    Byte,
+    Look,
+    Tally,
+}
+
+impl Form {
+    // The form that a command word begins.
+    pub fn named(word: &[u8]) -> Option<Form>
+        ensures value { λ r. ⌜ Cases r (Nameless (now (word .entry))) (λ f. Names (now (word .entry)) f) ⌝ }
+    {
+        match word {
+            b"make" => Some(Form::Make),
+            b"hold" => Some(Form::Hold),
+            b"byte" => Some(Form::Byte),
+            b"look" => Some(Form::Look),
+            b"tally" => Some(Form::Tally),
+            _ => None,
+        }
+    }
+}
