@@ -11,7 +11,7 @@ use Rattle.std.proofs.shelf.Tests.{cond-both, cond-true, cond-false, ne-eqb, eq
 use Rattle.kinds.specs.Rows.{Shape}
 use Rattle.keyboard.specs.Answers.{answer-line}
 use Rattle.keyboard.specs.Lines.{meaning}
-use Rattle.keyboard.proofs.Keeping.{kept-typed, kept-means}
+use Rattle.keyboard.proofs.Keeping.{kept-next, kept-means}
 use Rattle.model.specs.Calls.{Answered}
 use Rattle.model.specs.State.{State}
 use Rattle.console.specs.Session.{Lined, Session, in-front, lined, last-line, all-lines, all-told, session, Typed, Whole}
@@ -102,7 +102,7 @@ module _ (k : Shape) (s : State) (input output line : List ℕ) (t : State) (so-
     output-so-far =
         append-nil output ∙ so-far .output-so-far ∙ sym (ap (λ m. all-told k s (m .lines) .output) (lined-byte input b n));
     line-so-far =
-        kept-typed line (take 81 (line ++ (b ∷ []))) b refl (lined input .rest) (so-far .line-so-far)
+        ap (λ l. take 81 (l ++ (b ∷ []))) (so-far .line-so-far) ∙ kept-next (lined input .rest) b
         ∙ sym (ap (λ m. take 81 (m .rest)) (lined-byte input b n));
     store-so-far = so-far .store-so-far ∙ sym (ap (λ m. all-told k s (m .lines) .store) (lined-byte input b n));
   }

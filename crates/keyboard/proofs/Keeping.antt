@@ -18,15 +18,12 @@ pub kept-full : (bs : List ℕ) (n b : ℕ) → length bs ≡ 81 → n ≤ 81 �
 kept-full bs n b room within full = sym (take-at (take n bs) (b ∷ []) 81 (omega (arith, length-take-le n bs (omega arith))))
 
 -- what is kept of a line, one byte on
-kept-next : (line : List ℕ) (b : ℕ) → take 81 (take 81 line ++ b ∷ []) ≡ take 81 (line ++ b ∷ [])
+pub kept-next : (line : List ℕ) (b : ℕ) → take 81 (take 81 line ++ b ∷ []) ≡ take 81 (line ++ b ∷ [])
 kept-next line b =
     ⊎-elim
     (λ short. rw (take-all 81 line (omega arith)))
     (λ long. take-at (take 81 line) (b ∷ []) 81 (length-take-le 81 line long) ∙ sym (take-append-le 81 line (b ∷ []) long))
     (cases-lt (length line) 81)
-
-pub kept-typed : (was more : List ℕ) (b : ℕ) → more ≡ take 81 (was ++ b ∷ []) → (line : List ℕ) → was ≡ take 81 line → more ≡ take 81 (line ++ b ∷ [])
-kept-typed was more b after line e = after ∙ rw e (kept-next line b)
 
 -- a line of 81 bytes or more means no call, and so does what is kept of it
 pub kept-means : (line : List ℕ) → meaning (take 81 line) ≡ meaning line

@@ -18,7 +18,7 @@ use Rattle.std.proofs.shelf.Lists.{at-drop-more, at-drop-all}
 use Rattle.std.proofs.shelf.Numerals.{Numerals, numerals-by-fold, tells-allDigits, value-short}
 use Rattle.std.proofs.shelf.Tests.{cases-lt}
 use Rattle.std.proofs.shelf.Ways.{tells}
-use Rattle.keyboard.specs.Lines.{written-after, numeral}
+use Rattle.keyboard.specs.Lines.{written-after, plain, numeral}
 
 -- i digits of w are read, and they write n
 pub record Read (w : List ℕ) (i n : ℕ) : Type 0 where
@@ -41,16 +41,12 @@ refused w i n h within other =
     let none : allDigits w ≡ false = sym (h .digits) ∙ rw other at e in
     rw none
 
--- all that a word needs to be a numeral
-pub is-accepted : (w : List ℕ) → allDigits w ≡ true → 1 ≤ length w → length w ≤ 5 → (getD w 0 0 ≡ 48 → length w ≤ 1) → numeral w ≡ Some (written-after 0 w)
-is-accepted w all some few plain = rw all (grind (arith, tells))
-
 -- every byte was a digit
-pub accepted : (w : List ℕ) (i n : ℕ) → Read w i n → length w ≤ i → 1 ≤ length w → length w ≤ 5 → (getD w 0 0 ≡ 48 → length w ≤ 1) → Some n ≡ numeral w
-accepted w i n h past some few plain =
+pub accepted : (w : List ℕ) (i n : ℕ) → Read w i n → length w ≤ i → plain w ≡ true → Some n ≡ numeral w
+accepted w i n h past shaped =
     let all = sym (h .digits) ∙ at-drop-all allDigits w i past in
     let value = sym (at-drop-all (written-after n) w i past) ∙ h .value in
-    rw (is-accepted w all some few plain, value)
+    rw (all, shaped, ← value)
 
 -- a word that begins with no digit
 pub no-numeral : (w : List ℕ) → asciiDigit (getD w 0 0) ≡ false → numeral w ≡ None
@@ -62,7 +58,7 @@ own : Numerals (λ w. allDigits w ≡ true) (written-after 0)
 own = numerals-by-fold _ tells-allDigits written-after (record { empty = λ n. refl; more = λ n c cs digit. rw (mul-comm 10 n) })
 
 -- what a numeral is: digits, few of them, with no 0 in front, and their number
-pub numeral-parts : (w : List ℕ) (n : ℕ) → numeral w ≡ Some n → (allDigits w ≡ true) × (1 ≤ length w) × (length w ≤ 5) × (getD w 0 0 ≡ 48 → length w ≡ 1) × (written-after 0 w ≡ n)
+numeral-parts : (w : List ℕ) (n : ℕ) → numeral w ≡ Some n → (allDigits w ≡ true) × (1 ≤ length w) × (length w ≤ 5) × (getD w 0 0 ≡ 48 → length w ≡ 1) × (written-after 0 w ≡ n)
 numeral-parts w n e = (grind (arith, tells), grind (arith, tells), grind (arith, tells), λ zero. grind (arith, tells), grind (arith, tells))
 
 pub decimal-from-numeral : (w : List ℕ) (n : ℕ) → numeral w ≡ Some n → (n < 100000) × (w ≡ decimal n)
@@ -82,5 +78,8 @@ plain-decimal n fits zero =
 pub numeral-from-decimal : (w : List ℕ) (n : ℕ) → n < 100000 → w ≡ decimal n → numeral w ≡ Some n
 numeral-from-decimal w n small e =
     let fits : n < 2 ^ 64 = omega arith in
+    let some = decimal-some n fits in
     let few = length-decimal-le 5 n (omega arith) (omega arith) fits in
-    rw e (is-accepted (decimal n) (digits-decimal own n fits) (decimal-some n fits) few (plain-decimal n fits) ∙ ap Some (value-decimal own n fits))
+    let front = plain-decimal n fits in
+    let shaped : plain (decimal n) ≡ true = grind (arith, tells) in
+    rw (e, digits-decimal own n fits, shaped, value-decimal own n fits)

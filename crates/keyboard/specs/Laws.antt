@@ -1,19 +1,25 @@
 -- Laws of lines and answers.
 use Prim.Native.Nat.{ℕ, _^_, _<_}
-use mathlib.Core.List.{List}
+use mathlib.Core.List.{List, [], _∷_, _++_}
 use mathlib.Core.Logic.{_↔_}
 use mathlib.Core.Path.{_≡_}
+use lib.ListN.{take}
 use Rattle.std.specs.Written.{decimal}
 use Rattle.std.specs.declared.option.Option.the-variants.{Some}
 use Rattle.model.specs.Refusals.{number-of}
 use Rattle.model.specs.declared.calls.Reply.{Reply}
 use Rattle.model.specs.declared.calls.Reply.the-variants.{Number, Done, Refused}
 use Rattle.keyboard.specs.Answers.{answer-line}
-use Rattle.keyboard.specs.Lines.{numeral}
+use Rattle.keyboard.specs.Lines.{numeral, meaning}
 
 -- the numerals are exactly the decimals of the numbers below k
 abbrev pub Decimals-below : ℕ → Type 0
 Decimals-below k = (w : List ℕ) (n : ℕ) → (numeral w ≡ Some n) ↔ ((n < k) × (w ≡ decimal n))
+
+-- it suffices to keep the first k bytes of a line: they can be kept byte by byte, and they mean what the line means
+pub record Suffices (k : ℕ) : Type 0 where
+  pub next : (line : List ℕ) (b : ℕ) → take k (take k line ++ b ∷ []) ≡ take k (line ++ b ∷ [])
+  pub means : (line : List ℕ) → meaning (take k line) ≡ meaning line
 
 -- replies of one kind, with one number
 abbrev pub Alike : Reply → Reply → Type 0

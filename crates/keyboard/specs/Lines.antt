@@ -27,12 +27,13 @@ abbrev pub written-after : ℕ → List ℕ → ℕ
 written-after n [] = n
 written-after n (d ∷ ds) = written-after (10 * n + (d - 48)) ds
 
--- 1 to 5 digits, the first of them no 0 unless it is the only one
-abbrev pub is-numeral : List ℕ → Bool
-is-numeral w = allDigits w && (leb 1 (length w) && (leb (length w) 5 && (eqb (length w) 1 || not (eqb (getD w 0 0) 48))))
+-- 1 to 5 bytes, the first of them no 0 unless it is the only one
+abbrev pub plain : List ℕ → Bool
+plain w = leb 1 (length w) && (leb (length w) 5 && (eqb (length w) 1 || not (eqb (getD w 0 0) 48)))
 
+-- the number that a word writes
 abbrev pub numeral : List ℕ → Option ℕ
-numeral w = cond (is-numeral w) (Some (written-after 0 w)) None
+numeral w = cond (allDigits w && plain w) (Some (written-after 0 w)) None
 
 -- what is made of a value, where there is one
 abbrev pub made : {A B : Type 0} → Option A → (A → Option B) → Option B
@@ -45,11 +46,12 @@ both m n = made m (λ a. made n (λ b. Some (a, b)))
 abbrev pub all : Option ℕ → Option ℕ → Option ℕ → Option (ℕ × ℕ × ℕ)
 all m n o = made m (λ a. made n (λ b. made o (λ c. Some (a, b, c))))
 
--- the numbers of a form: none, one, two or three words that are numerals, and no word more
-abbrev pub none : List (List ℕ) → Option (Unit {0})
-none [] = Some tt
-none (a ∷ ws) = None
+-- a value, where no word is left
+abbrev pub alone : {A : Type 0} → A → List (List ℕ) → Option A
+alone k [] = Some k
+alone k (w ∷ ws) = None
 
+-- one, two or three words that are numerals, and no word more
 abbrev pub one : List (List ℕ) → Option ℕ
 one [] = None
 one (a ∷ []) = numeral a
@@ -79,11 +81,11 @@ is s w = sameBytes w (codes s)
 abbrev pub form : List (List ℕ) → Option Call
 form [] = None
 form (c ∷ ws) =
-    cond (is "make" c) (made (none ws) (λ n. Some Make))
-    (cond (is "hold" c) (made (one ws) (λ n. Some (Hold n)))
+    cond (is "make" c) (alone Make ws)
+    (cond (is "hold" c) (made (one ws) (λ r. Some (Hold r)))
     (cond (is "byte" c) (made (three ws) byte-call)
     (cond (is "look" c) (made (two ws) (λ n. Some (Look (n .0) (n .1))))
-    (cond (is "tally" c) (made (none ws) (λ n. Some Tally))
+    (cond (is "tally" c) (alone Tally ws)
     None))))
 
 -- the call that a line means; none where it is outside the forms or longer than 80 bytes

@@ -1,19 +1,19 @@
 // From a line to the call that it means.
 ghost use mathlib.Core.Path.{_≡_};
 ghost use mathlib.Core.List.{_∷_};
-ghost use Rattle.keyboard.specs.Lines.{none as «no-number», one as «one-number», two as «two-numbers», three as «three-numbers», form, meaning};
+ghost use Rattle.keyboard.specs.Lines.{alone as «value-alone», «byte-call» as «call-of-byte», one as «one-number», two as «two-numbers», three as «three-numbers», form, meaning};
 ghost use Rattle.keyboard.specs.Splits.{left};
 ghost use Rattle.keyboard.specs.Names.{«name-of»};
 use crate::forms::Form;
 use crate::words::Words;
 use model::calls::Call;
 
-// No word more.
-fn none(mut words: Words<'_>) -> Option<()>
-    ensures value { λ r. ⌜ r ≡ «no-number» (left (words .entry)) ⌝ }
+// The value, where no word is left.
+fn alone<T: Copy>(value: T, mut words: Words<'_>) -> Option<T>
+    ensures value { λ r. ⌜ r ≡ «value-alone» value (left (words .entry)) ⌝ }
 {
     match words.next() {
-        None => Some(()),
+        None => Some(value),
         Some(_) => None,
     }
 }
@@ -23,8 +23,7 @@ fn one(mut words: Words<'_>) -> Option<usize>
     ensures value { λ r. ⌜ r ≡ «one-number» (left (words .entry)) ⌝ }
 {
     let a = words.number()?;
-    none(words)?;
-    Some(a)
+    alone(a, words)
 }
 
 // Two numbers and no word more.
@@ -45,34 +44,32 @@ fn three(mut words: Words<'_>) -> Option<(usize, usize, usize)>
     Some((a, b, c))
 }
 
+// A call that writes a byte, whose value is at most 255.
+fn byte_call(record: usize, byte: usize, value: usize) -> Option<Call>
+    ensures value { λ r. ⌜ r ≡ «call-of-byte» («record», byte, value) ⌝ }
+{
+    if value > 255 {
+        return None;
+    }
+    Some(Call::Byte(record, byte, value as u8))
+}
+
 // The call of a form, from the words after its command word.
 fn call(kind: Form, words: Words<'_>) -> Option<Call>
     ensures value { λ r. ⌜ r ≡ form («name-of» kind ∷ left (words .entry)) ⌝ }
 {
     match kind {
-        Form::Make => {
-            none(words)?;
-            Some(Call::Make)
-        }
-        Form::Hold => {
-            let record = one(words)?;
-            Some(Call::Hold(record))
-        }
+        Form::Make => alone(Call::Make, words),
+        Form::Hold => Some(Call::Hold(one(words)?)),
         Form::Byte => {
             let (record, byte, value) = three(words)?;
-            if value > 255 {
-                return None;
-            }
-            Some(Call::Byte(record, byte, value as u8))
+            byte_call(record, byte, value)
         }
         Form::Look => {
             let (record, byte) = two(words)?;
             Some(Call::Look(record, byte))
         }
-        Form::Tally => {
-            none(words)?;
-            Some(Call::Tally)
-        }
+        Form::Tally => alone(Call::Tally, words),
     }
 }
 

@@ -13,7 +13,7 @@ pub enum Form {
 
 impl Form {
     // The form that a command word begins.
-    pub fn named(word: &[u8]) -> Option<Form>
+    pub(crate) fn named(word: &[u8]) -> Option<Form>
         ensures value { λ r. ⌜ Cases r (Nameless (now (word .entry))) (λ f. Names (now (word .entry)) f) ⌝ }
     {
         match word {

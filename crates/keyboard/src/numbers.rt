@@ -1,15 +1,23 @@
 // Numbers as they are typed.
+ghost use Prim.Native.Nat.{_≤_};
+ghost use mathlib.Core.Bool.{true};
 ghost use mathlib.Core.Path.{_≡_};
-ghost use Rattle.keyboard.specs.Lines.{numeral};
+ghost use lib.ListN.{length};
+ghost use Rattle.keyboard.specs.Lines.{plain, numeral};
 
-// The number that a word writes: 1 to 5 digits, and no 0 in front of another.
-pub fn number(digits: &[u8]) -> Option<usize>
+// 1 to 5 bytes, the first of them no 0 unless it is the only one.
+fn is_plain(word: &[u8]) -> bool
+    ensures value { λ r. ⌜ r ≡ plain (now (word .entry)) ⌝ }
+    ensures short { λ r. ⌜ (r ≡ true → length (now (word .entry)) ≤ 5) ⌝ }
+{
+    !word.is_empty() && word.len() <= 5 && (word.len() == 1 || word[0] != b'0')
+}
+
+// The number that a word writes.
+pub(crate) fn number(digits: &[u8]) -> Option<usize>
     ensures value { λ r. ⌜ r ≡ numeral (now (digits .entry)) ⌝ }
 {
-    if digits.is_empty() || digits.len() > 5 {
-        return None;
-    }
-    if digits[0] == b'0' && digits.len() > 1 {
+    if !is_plain(digits) {
         return None;
     }
     let mut value = 0;

@@ -38,14 +38,14 @@ pub struct Words<'a> {
 }
 
 impl<'a> Words<'a> {
-    pub fn new(line: &'a [u8]) -> Words<'a>
+    pub(crate) fn new(line: &'a [u8]) -> Words<'a>
         ensures value { λ r. ⌜ left r ≡ words (now (line .entry)) ⌝ }
     {
         Words { rest: Some(line) }
     }
 
     // Splits the first word off.
-    pub fn next(&mut self) -> Option<Word<'a>>
+    pub(crate) fn next(&mut self) -> Option<Word<'a>>
         ensures value { λ r. ⌜ Cases r (left (now (self .entry)) ≡ []) (λ w. left (now (self .entry)) ≡ «text-of» w ∷ left (now (self .exit))) ⌝ }
         ensures kind { λ r. ⌜ Cases r (left (now (self .exit)) ≡ []) (λ w. «is-digits» w ≡ asciiDigit (getD («text-of» w) 0 0)) ⌝ }
     {
@@ -58,7 +58,7 @@ impl<'a> Words<'a> {
     }
 
     // The form whose command word comes next.
-    pub fn form(&mut self) -> Option<Form>
+    pub(crate) fn form(&mut self) -> Option<Form>
         ensures value { λ r. ⌜ Cases r (form (left (now (self .entry))) ≡ None) (λ f. left (now (self .entry)) ≡ «name-of» f ∷ left (now (self .exit))) ⌝ }
     {
         match self.next()? {
@@ -68,7 +68,7 @@ impl<'a> Words<'a> {
     }
 
     // The number that the next word writes.
-    pub fn number(&mut self) -> Option<usize>
+    pub(crate) fn number(&mut self) -> Option<usize>
         ensures value { λ r. ⌜ r ≡ «first-number» (left (now (self .entry))) ⌝ }
         ensures after { λ _. ⌜ left (now (self .exit)) ≡ others (left (now (self .entry))) ⌝ }
     {

@@ -79,4 +79,6 @@ fn main(rt: LibcRuntime) -> io::Result<()> {
 }
 
 #[cfg(test)]
+mod line_tests;
+#[cfg(test)]
 mod tests;

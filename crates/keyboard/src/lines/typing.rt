@@ -1,11 +1,10 @@
 // What is done with a line that is being typed.
-ghost use Prim.Native.Nat.{ℕ};
+ghost use Prim.Native.Nat.{_<_};
 ghost use mathlib.Core.Path.{_≡_};
-ghost use mathlib.Core.List.{List, [], _∷_, _++_};
+ghost use mathlib.Core.List.{[], _∷_, _++_};
 ghost use lib.Dec.{eqb};
 ghost use lib.ListN.{length, take};
 ghost use Rattle.keyboard.specs.Buffers.{text};
-ghost use Rattle.keyboard.specs.Lines.{meaning};
 use super::Line;
 
 impl Line {
@@ -21,12 +20,19 @@ impl Line {
     // Adds a byte, where fewer than 81 are kept.
     pub fn push(&mut self, b: u8)
         ensures after { λ _. ⌜ text (now (self .exit)) ≡ take 81 (text (now (self .entry)) ++ b ∷ []) ⌝ }
-        ensures typed { λ _. ⌜ ((line : List ℕ) → text (now (self .entry)) ≡ take 81 line → text (now (self .exit)) ≡ take 81 (line ++ b ∷ [])) ⌝ }
     {
         if self.len < 81 {
-            self.bytes[self.len] = b;
-            self.len += 1;
+            self.store(b);
         }
+    }
+
+    // Writes a byte behind the others.
+    fn store(&mut self, b: u8)
+        requires { ⌜ now self .len < 81 ⌝ }
+        ensures after { λ _. ⌜ text (now (self .exit)) ≡ take 81 (text (now (self .entry)) ++ b ∷ []) ⌝ }
+    {
+        self.bytes[self.len] = b;
+        self.len += 1;
     }
 
     pub fn clear(&mut self)
@@ -44,7 +50,6 @@ impl Line {
     // The bytes that are kept.
     pub fn bytes(&self) -> &[u8]
         ensures value { λ r. ⌜ now r ≡ text (now (self .entry)) ⌝ }
-        ensures meant { λ r. ⌜ ((line : List ℕ) → text (now (self .entry)) ≡ take 81 line → meaning (now r) ≡ meaning line) ⌝ }
     {
         &self.bytes[0..self.len]
     }

@@ -1,7 +1,5 @@
 use mathlib.Core.Path.{sym}
 use borrow.Author.Needs.{needs}
-use native.Mathlib.Omega.{arith}
-use Rattle.std.proofs.shelf.Ways.{tells}
 use Rattle.keyboard.proofs.Reading.{read-more, refused, accepted}
 use Rattle.keyboard.proofs.numbers.number.Needs as need
 
@@ -12,6 +10,4 @@ pub loop-d-again : need.loop-d-again
 loop-d-again c = read-more _ _ _ (c .loop-d .inv) (c .loop-d-test .taken) (sym (c .if-not-is-ascii-digit .ensures tt .value))
 
 pub returns : need.returns
-returns c =
-    let some = c .if-is-empty .ensures tt in
-    record { value = accepted _ _ _ (c .loop-d .inv) (c .loop-d-test .left) (grind (arith, tells)) (c .if-digits-gt5 .left) (λ zero. grind arith) }
+returns c = search (needs, accepted)
