@@ -65,7 +65,7 @@ module _ (k : Shape) (l : Ledger) (s : State) (law : Lawful k s) (agrees : Agree
       record {
         agrees =
             agrees-with-head (s .front) made-header (record { holds = 1; row = blank k }) (head s (s .front) .next) (f .within) refl
-            (λ _. sym (law .each (s .front) (f .within) .free-blank (f .free) .0));
+            (λ _. sym (law .each (s .front) (f .within) .settled .free-blank (f .free) .0));
         accounted = omega (arith, in-use-with-head (s .front) made-header (f .within), ap once (f .free));
       })
 

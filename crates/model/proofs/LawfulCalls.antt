@@ -30,11 +30,11 @@ Covered s r = Reachable s r ⊎ (Spent s r ⊎ From (Candidate s) (Links s) r)
 -- a held record is in use, and has a count
 pub held-used : (k : Shape) (s : State) (r : ℕ) → Lawful k s → Held s r → (head s r .used ≡ true) × (0 < head s r .count)
 held-used k s r law held =
-    (by-use (head s r .used) refl, omega (arith, law .each r (held .0) .holds-counted))
+    (by-use (head s r .used) refl, omega (arith, law .each r (held .0) .settled .holds-counted))
   where
     by-use : (b : Bool) → head s r .used ≡ b → head s r .used ≡ true
     by-use true e = e
-    by-use false e = let z = ap (λ h. h .holds) (law .each r (held .0) .free-blank e .1) in absurd (let no : ⊥ = omega (arith, z) in no)
+    by-use false e = let z = ap (λ h. h .holds) (law .each r (held .0) .settled .free-blank e .1) in absurd (let no : ⊥ = omega (arith, z) in no)
 
 -- the chain does not see the head of a record that is not on it
 pub chain-elsewhere :
@@ -106,7 +106,7 @@ module _ (k : Shape) (s : State) (x : ℕ) (h : Header) (law : Lawful k s) (w : 
 -- Make.
 module _ (k : Shape) (s : State) (x : ℕ) (law : Lawful k s) (w : Within s x) (free : head s x .used ≡ false) where
   pub free-head : head s x ≡ free-header (head s x .next)
-  free-head = law .each x w .free-blank free .1
+  free-head = law .each x w .settled .free-blank free .1
 
   pub lawful-taken :
       (rs : List ℕ) → Chain s (head s x .next) rs → ((r : ℕ) → Within s r → naming r (x ∷ rs) + once (head s r .used) ≡ 1) →
@@ -124,14 +124,16 @@ module _ (k : Shape) (s : State) (x : ℕ) (law : Lawful k s) (w : Within s x) (
 
       proper : Proper k made-header (row s x)
       proper = record {
-        links-fit = own .links-fit;
-        bytes-fit = own .bytes-fit;
-        holds-few = omega arith;
-        holds-counted = omega arith;
+        settled = record {
+          links-fit = own .settled .links-fit;
+          bytes-fit = own .settled .bytes-fit;
+          holds-few = omega arith;
+          holds-counted = omega arith;
+          used-unchained = λ _. refl;
+          free-blank = λ z. absurd (true≢false z);
+        };
         coloured = inl refl;
-        used-unchained = λ _. refl;
         spent-waits = λ _ z. let no : ⊥ = omega arith in absurd no;
-        free-blank = λ z. absurd (true≢false z);
       }
 
       count : 1 ≡ 1 + named s x
@@ -169,14 +171,16 @@ lawful-held-more k s x law held less =
 
     proper : Proper k more (row s x)
     proper = record {
-      links-fit = own .links-fit;
-      bytes-fit = own .bytes-fit;
-      holds-few = omega arith;
-      holds-counted = omega (arith, own .holds-counted);
+      settled = record {
+        links-fit = own .settled .links-fit;
+        bytes-fit = own .settled .bytes-fit;
+        holds-few = omega arith;
+        holds-counted = omega (arith, own .settled .holds-counted);
+        used-unchained = own .settled .used-unchained;
+        free-blank = λ z. absurd (both-ways (head s x .used) z (live .0));
+      };
       coloured = inl refl;
-      used-unchained = own .used-unchained;
       spent-waits = λ _ z. let no : ⊥ = omega arith in absurd no;
-      free-blank = λ z. absurd (both-ways (head s x .used) z (live .0));
     }
 
     absent : naming x (law .chain .0) ≡ 0
@@ -223,14 +227,16 @@ module _ (k : Shape) (s : State) (x : ℕ) (law : Lawful k s) (held : Held s x) 
       let own = law .each x (held .0) in
       let live = held-used k s x law held in
       record {
-        links-fit = own .links-fit;
-        bytes-fit = length-set (row s x .bytes) b v ∙ own .bytes-fit;
-        holds-few = own .holds-few;
-        holds-counted = own .holds-counted;
+        settled = record {
+          links-fit = own .settled .links-fit;
+          bytes-fit = length-set (row s x .bytes) b v ∙ own .settled .bytes-fit;
+          holds-few = own .settled .holds-few;
+          holds-counted = own .settled .holds-counted;
+          used-unchained = own .settled .used-unchained;
+          free-blank = λ z. absurd (both-ways (head s x .used) z (live .0));
+        };
         coloured = own .coloured;
-        used-unchained = own .used-unchained;
         spent-waits = λ _ z. let no : ⊥ = omega (arith, live .1) in absurd no;
-        free-blank = λ z. absurd (both-ways (head s x .used) z (live .0));
       }
 
   pub lawful-byte : Lawful k (with-row s x (with-byte (row s x) b v))
@@ -317,7 +323,7 @@ module _ (k : Shape) (s : State) (law : Lawful k s) where
       omega (
         arith,
         law .counts r w,
-        law .each r w .holds-few,
+        law .each r w .settled .holds-few,
         law .few,
         mul-le-mul-right 16 (law .few),
         sumBy-le (λ x. naming r (x .links)) 16 (s .rows) (all-from-getD (λ x. naming r (x .links) ≤ 16) (s .rows) no-row few-links),
@@ -325,7 +331,7 @@ module _ (k : Shape) (s : State) (law : Lawful k s) where
     where
       few-links : (i : ℕ) → i < length (s .rows) → naming r (getD (s .rows) i no-row .links) ≤ 16
       few-links i l =
-          let p = law .each (i + 1) (omega arith, omega arith) .links-fit in
+          let p = law .each (i + 1) (omega arith, omega arith) .settled .links-fit in
           let e : (i + 1) - 1 ≡ i = omega arith in
           omega (
             arith,

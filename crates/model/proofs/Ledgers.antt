@@ -41,7 +41,7 @@ module _ (k : Shape) (s : State) (law : Lawful k s) where
   resting-blank r w p = by-use (head s r .used) refl
     where
       by-use : (b : Bool) → head s r .used ≡ b → row s r ≡ blank k
-      by-use false e = law .each r w .free-blank e .0
+      by-use false e = law .each r w .settled .free-blank e .0
       by-use true e =
           law .each r w .spent-waits e (zero-count (head s r .count) (λ c. both-ways (in-play (head s r)) p (playing (head s r) e c))) .0
         where

@@ -1,4 +1,5 @@
 pub mod Places
+pub mod LiveCounting
 pub mod Paths
 pub mod Counting
 pub mod LawfulCalls
@@ -6,3 +7,5 @@ pub mod NewStore
 pub mod Ledgers
 pub mod Histories
 pub mod Accepted
+pub mod Releases
+pub mod Walks

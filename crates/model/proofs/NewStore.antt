@@ -59,14 +59,16 @@ module _ (k : Shape) (n : ℕ) where
 
   proper-free : (f : ℕ) → Proper k (free-header f) (blank k)
   proper-free f = record {
-    links-fit = length-replicate (k .links) 0;
-    bytes-fit = length-replicate (k .bytes) 0;
-    holds-few = omega arith;
-    holds-counted = omega arith;
+    settled = record {
+      links-fit = length-replicate (k .links) 0;
+      bytes-fit = length-replicate (k .bytes) 0;
+      holds-few = omega arith;
+      holds-counted = omega arith;
+      used-unchained = λ z. absurd (false≢true z);
+      free-blank = λ _. (refl, refl);
+    };
     coloured = inl refl;
-    used-unchained = λ z. absurd (false≢true z);
     spent-waits = λ z. absurd (false≢true z);
-    free-blank = λ _. (refl, refl);
   }
 
   unlinked : (r t : ℕ) → Within (new k n) r → Links (new k n) r t → ⊥

@@ -17,3 +17,15 @@ pub from-either :
     {r : ℕ} → From P To r → From Q To r ⊎ From R To r
 from-either p (here a) = elim (p _ a) [ inl q ↦ inl (here q) | inr q ↦ inr (here q) ]
 from-either p (along f l) = elim (from-either p f) [ inl q ↦ inl (along q l) | inr q ↦ inr (along q l) ]
+
+-- A step takes some records out of the links that count. What was come to through them is come to afresh.
+pub from-past :
+    {P Q : ℕ → Type 0} {To On : ℕ → ℕ → Type 0} (Gone : ℕ → Type 0) → ((r : ℕ) → Gone r ⊎ (Gone r → ⊥)) →
+    ((r : ℕ) → P r → Gone r ⊎ Q r) → ((r t : ℕ) → To r t → Gone r → Q t) → ((r t : ℕ) → To r t → (Gone r → ⊥) → On r t) →
+    {r : ℕ} → From P To r → Gone r ⊎ From Q On r
+from-past Gone known starts lost kept (here a) = elim (starts _ a) [ inl g ↦ inl g | inr q ↦ inr (here q) ]
+from-past Gone known starts lost kept (along {r = q} f l) =
+    elim (known q) [
+      | inl g ↦ inr (here (lost _ _ l g))
+      | inr not-gone ↦ elim (from-past Gone known starts lost kept f) [ inl g ↦ absurd (not-gone g) | inr p ↦ inr (along p (kept _ _ l not-gone)) ]
+    ]

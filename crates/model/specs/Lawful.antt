@@ -53,18 +53,30 @@ Chain s r (x ∷ xs) = (r ≡ x) × (Within s x × ((head s x .used ≡ false) �
 abbrev pub once : Bool → ℕ
 once b = cond b 1 0
 
--- what each record keeps by itself
-pub record Proper (k : Shape) (h : Header) (w : Row) : Type 0 where
+-- what each record keeps by itself at every moment, inside a call too
+pub record Settled (k : Shape) (h : Header) (w : Row) : Type 0 where
   pub links-fit : length (w .links) ≡ k .links
   pub bytes-fit : length (w .bytes) ≡ k .bytes
   pub holds-few : h .holds ≤ 1000
   pub holds-counted : h .holds ≤ h .count
-  pub coloured : (h .colour ≡ Black) ⊎ ((h .colour ≡ Purple) × (h .waiting ≡ true))
-  -- in use: out of the chain; with count 0 it is spent: blank and black, and waiting
+  -- in use: out of the chain
   pub used-unchained : h .used ≡ true → h .next ≡ 0
-  pub spent-waits : h .used ≡ true → h .count ≡ 0 → (w ≡ blank k) × ((h .colour ≡ Black) × (h .waiting ≡ true))
   -- free: blank, black, not waiting, with no hold and no count
   pub free-blank : h .used ≡ false → (w ≡ blank k) × (h ≡ free-header (h .next))
+
+-- black, or purple and waiting
+abbrev pub Coloured : Header → Type 0
+Coloured h = (h .colour ≡ Black) ⊎ ((h .colour ≡ Purple) × (h .waiting ≡ true))
+
+-- spent: blank and black, and waiting to be taken off the list
+abbrev pub Resting : Shape → Header → Row → Type 0
+Resting k h w = (w ≡ blank k) × ((h .colour ≡ Black) × (h .waiting ≡ true))
+
+-- what each record keeps by itself between calls
+pub record Proper (k : Shape) (h : Header) (w : Row) : Type 0 where
+  pub settled : Settled k h w
+  pub coloured : Coloured h
+  pub spent-waits : h .used ≡ true → h .count ≡ 0 → Resting k h w
 
 pub record Lawful (k : Shape) (s : State) : Type 0 where
   pub few : length (s .rows) ≤ 4095

@@ -59,6 +59,9 @@ with-head s r h = record { heads = set (s .heads) (r - 1) h; rows = s .rows; can
 abbrev pub with-row : State → ℕ → Row → State
 with-row s r w = record { heads = s .heads; rows = set (s .rows) (r - 1) w; candidates = s .candidates; front = s .front }
 
+abbrev pub with-candidates : State → List ℕ → State
+with-candidates s l = record { heads = s .heads; rows = s .rows; candidates = l; front = s .front }
+
 abbrev pub with-front : State → ℕ → State
 with-front s r = record { heads = s .heads; rows = s .rows; candidates = s .candidates; front = r }
 
