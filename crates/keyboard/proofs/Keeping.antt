@@ -3,7 +3,7 @@ use Prim.Native.Nat.{ℕ, _+_, _≤_, _<_}
 use native.Mathlib.Omega.{arith}
 use mathlib.Core.List.{List, [], _∷_, _++_}
 use mathlib.Core.Logic.{⊎-elim}
-use mathlib.Core.Path.{_≡_, refl, sym, _∙_}
+use mathlib.Core.Path.{_≡_, sym, _∙_}
 use lib.ListN.{length, take, set}
 use Rattle.std.proofs.shelf.Lists.{length-take-le, length-push, take-more-set, take-all, take-append-le, take-at}
 use Rattle.std.proofs.shelf.Tests.{cases-lt, lt-leb}

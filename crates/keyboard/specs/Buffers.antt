@@ -5,7 +5,7 @@ use lib.ListN.{take}
 use Rattle.keyboard.specs.declared.answers.Answer.{Answer}
 use Rattle.keyboard.specs.declared.lines.Line.{Line}
 
--- the first 81 bytes of the line that is being typed
+-- what is kept of the line that is being typed
 abbrev pub text : Line → List ℕ
 text l = take (l .len) (l .bytes)
 

@@ -12,7 +12,7 @@ use Rattle.std.specs.declared.option.Option.the-variants.{Some, None}
 use Rattle.model.specs.declared.calls.Call.{Call}
 use Rattle.model.specs.declared.calls.Call.the-variants.{Make, Hold, Byte, Look, Tally}
 
--- the words of a line that begins with the byte b, from the words of what follows b (there is at least one)
+-- a byte in front of a line with these words (there is at least one): a space begins a word, any other byte lengthens the first
 abbrev pub begun : ℕ → List (List ℕ) → List (List ℕ)
 begun b [] = []
 begun b (w ∷ ws) = cond (eqb b 32) ([] ∷ w ∷ ws) ((b ∷ w) ∷ ws)
@@ -35,16 +35,10 @@ plain w = leb 1 (length w) && (leb (length w) 5 && (eqb (length w) 1 || not (eqb
 abbrev pub numeral : List ℕ → Option ℕ
 numeral w = cond (allDigits w && plain w) (Some (written-after 0 w)) None
 
--- what is made of a value, where there is one
+-- what a function makes of a value, where there is one
 abbrev pub made : {A B : Type 0} → Option A → (A → Option B) → Option B
 made None f = None
 made (Some a) f = f a
-
-abbrev pub both : Option ℕ → Option ℕ → Option (ℕ × ℕ)
-both m n = made m (λ a. made n (λ b. Some (a, b)))
-
-abbrev pub all : Option ℕ → Option ℕ → Option ℕ → Option (ℕ × ℕ × ℕ)
-all m n o = made m (λ a. made n (λ b. made o (λ c. Some (a, b, c))))
 
 -- a value, where no word is left
 abbrev pub alone : {A : Type 0} → A → List (List ℕ) → Option A
@@ -60,20 +54,21 @@ one (a ∷ b ∷ ws) = None
 abbrev pub two : List (List ℕ) → Option (ℕ × ℕ)
 two [] = None
 two (a ∷ []) = None
-two (a ∷ b ∷ []) = both (numeral a) (numeral b)
+two (a ∷ b ∷ []) = made (numeral a) (λ m. made (numeral b) (λ n. Some (m, n)))
 two (a ∷ b ∷ c ∷ ws) = None
 
 abbrev pub three : List (List ℕ) → Option (ℕ × ℕ × ℕ)
 three [] = None
 three (a ∷ []) = None
 three (a ∷ b ∷ []) = None
-three (a ∷ b ∷ c ∷ []) = all (numeral a) (numeral b) (numeral c)
+three (a ∷ b ∷ c ∷ []) = made (numeral a) (λ m. made (numeral b) (λ n. made (numeral c) (λ o. Some (m, n, o))))
 three (a ∷ b ∷ c ∷ d ∷ ws) = None
 
--- the value of a byte is at most 255
+-- the value to be written to a byte is at most 255
 abbrev pub byte-call : ℕ × ℕ × ℕ → Option Call
 byte-call n = cond (leb (n .2) 255) (Some (Byte (n .0) (n .1) (n .2))) None
 
+-- w is the text s
 abbrev pub is : String → List ℕ → Bool
 is s w = sameBytes w (codes s)
 

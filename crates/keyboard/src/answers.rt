@@ -5,7 +5,7 @@ ghost use lib.ListN.{length};
 
 pub mod writing;
 
-// At most 32 bytes: the longest answer is `ok`, a number of 20 digits and a line feed.
+// The first `len` of `bytes`. 32 are enough: the longest answer has `ok`, a number of 20 digits and a line feed.
 #[derive(Drop)]
 pub struct Answer {
     bytes: [u8; 32],

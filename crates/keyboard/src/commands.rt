@@ -8,7 +8,7 @@ use crate::forms::Form;
 use crate::words::Words;
 use model::calls::Call;
 
-// The value, where no word is left.
+// The value, where no word is left. None where a word is too many.
 fn alone<T: Copy>(value: T, mut words: Words<'_>) -> Option<T>
     ensures value { λ r. ⌜ r ≡ «value-alone» value (left (words .entry)) ⌝ }
 {

@@ -3,7 +3,7 @@ ghost use Rattle.std.specs.Options.{Cases};
 ghost use Rattle.keyboard.specs.Names.{Names, Nameless};
 
 #[derive(Clone, Copy)]
-pub enum Form {
+pub(crate) enum Form {
     Make,
     Hold,
     Byte,
@@ -12,7 +12,7 @@ pub enum Form {
 }
 
 impl Form {
-    // The form that a command word begins.
+    // The form that has this command word.
     pub(crate) fn named(word: &[u8]) -> Option<Form>
         ensures value { λ r. ⌜ Cases r (Nameless (now (word .entry))) (λ f. Names (now (word .entry)) f) ⌝ }
     {

@@ -5,6 +5,7 @@ ghost use lib.ListN.{length};
 
 mod typing;
 
+// The first 81 bytes of the line that is being typed: the first `len` of `bytes`.
 #[derive(Drop)]
 pub struct Line {
     bytes: [u8; 81],

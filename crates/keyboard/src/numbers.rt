@@ -13,7 +13,7 @@ fn is_plain(word: &[u8]) -> bool
     !word.is_empty() && word.len() <= 5 && (word.len() == 1 || word[0] != b'0')
 }
 
-// The number that a word writes.
+// The number that a word writes. None where the word is no numeral.
 pub(crate) fn number(digits: &[u8]) -> Option<usize>
     ensures value { λ r. ⌜ r ≡ numeral (now (digits .entry)) ⌝ }
 {

@@ -11,6 +11,7 @@ use super::Answer;
 use model::calls::Reply;
 
 impl Answer {
+    // No byte yet.
     fn new() -> Answer
         ensures value { λ r. ⌜ «line-of» r ≡ [] ⌝ }
     {
@@ -27,6 +28,7 @@ impl Answer {
         &self.bytes[0..self.len]
     }
 
+    // Writes a byte.
     fn push(&mut self, b: u8)
         requires { ⌜ length («line-of» (now self)) < 32 ⌝ }
         ensures after { λ _. ⌜ «line-of» (now (self .exit)) ≡ «line-of» (now (self .entry)) ++ b ∷ [] ⌝ }
@@ -45,7 +47,7 @@ impl Answer {
         }
     }
 
-    // Writes a number in decimal, the first digit first.
+    // Writes a number in decimal: what stands before its last digit, which is one digit shorter, and then that digit.
     fn push_number(&mut self, n: usize)
         requires { ⌜ length («line-of» (now self)) + length (decimal n) ≤ 32 ⌝ }
         ensures after { λ _. ⌜ «line-of» (now (self .exit)) ≡ «line-of» (now (self .entry)) ++ decimal n ⌝ }
@@ -59,7 +61,7 @@ impl Answer {
     }
 }
 
-// A line of a text and a number.
+// The line of a text and a number.
 fn numbered(words: &[u8], n: usize) -> Answer
     requires { ⌜ length (now words) ≤ 8 ⌝ }
     ensures value { λ r. ⌜ «line-of» r ≡ now (words .entry) ++ (decimal n ++ «line-feed») ⌝ }

@@ -8,6 +8,7 @@ ghost use Rattle.keyboard.specs.Buffers.{text};
 use super::Line;
 
 impl Line {
+    // No byte typed yet.
     pub fn new() -> Line
         ensures value { λ r. ⌜ text r ≡ [] ⌝ }
     {
@@ -17,7 +18,7 @@ impl Line {
         }
     }
 
-    // Adds a byte, where fewer than 81 are kept.
+    // One byte more. Past 81 it is not kept: the line is too long already.
     pub fn push(&mut self, b: u8)
         ensures after { λ _. ⌜ text (now (self .exit)) ≡ take 81 (text (now (self .entry)) ++ b ∷ []) ⌝ }
     {
@@ -26,7 +27,7 @@ impl Line {
         }
     }
 
-    // Writes a byte behind the others.
+    // Writes a byte behind those that are kept.
     fn store(&mut self, b: u8)
         requires { ⌜ now self .len < 81 ⌝ }
         ensures after { λ _. ⌜ text (now (self .exit)) ≡ take 81 (text (now (self .entry)) ++ b ∷ []) ⌝ }
@@ -35,19 +36,21 @@ impl Line {
         self.len += 1;
     }
 
+    // Forgets what was typed, for the next line.
     pub fn clear(&mut self)
         ensures after { λ _. ⌜ text (now (self .exit)) ≡ [] ⌝ }
     {
         self.len = 0;
     }
 
+    // Whether no byte was typed.
     pub fn is_empty(&self) -> bool
         ensures value { λ r. ⌜ r ≡ eqb (length (text (now (self .entry)))) 0 ⌝ }
     {
         self.len == 0
     }
 
-    // The bytes that are kept.
+    // The bytes that are kept, as `command` takes them.
     pub fn bytes(&self) -> &[u8]
         ensures value { λ r. ⌜ now r ≡ text (now (self .entry)) ⌝ }
     {
