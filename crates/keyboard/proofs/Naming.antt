@@ -15,7 +15,7 @@ use Rattle.std.proofs.shelf.Equals.{ReadsAt, text-from-reads, sameBytes-decides
 use Rattle.std.proofs.shelf.Tests.{cases-bool}
 use Rattle.std.proofs.shelf.Ways.{tells}
 use Rattle.keyboard.specs.declared.forms.Form.{Form}
-use Rattle.keyboard.specs.declared.forms.Form.the-variants.{Make, Hold, Byte, Look, Tally}
+use Rattle.keyboard.specs.declared.forms.Form.the-variants.{Make, Hold, Load, Link, Byte, Look, Drop, Tally}
 use Rattle.keyboard.specs.Lines.{form}
 use Rattle.keyboard.specs.Names.{name-of, Reads, Names, Nameless}
 
@@ -29,8 +29,11 @@ named w f h = text-from-reads w (name-of f) (h .0) (reads-at w 0 (name-of f) (h 
 names-own : (f : Form) → Names (name-of f) f
 names-own Make = search
 names-own Hold = search
+names-own Load = search
+names-own Link = search
 names-own Byte = search
 names-own Look = search
+names-own Drop = search
 names-own Tally = search
 
 unlike : (w : List ℕ) (f : Form) → (Names w f → ⊥) → sameBytes w (name-of f) ≡ false
@@ -41,7 +44,17 @@ unlike w f other =
     (cases-bool (sameBytes w (name-of f)))
 
 nameless : (w : List ℕ) (ws : List (List ℕ)) → Nameless w → form (w ∷ ws) ≡ None
-nameless w ws h = rw (unlike w Make (h .0), unlike w Hold (h .1), unlike w Byte (h .2), unlike w Look (h .3), unlike w Tally (h .4))
+nameless w ws h =
+    rw (
+      unlike w Make (h .0),
+      unlike w Hold (h .1),
+      unlike w Load (h .2),
+      unlike w Link (h .3),
+      unlike w Byte (h .4),
+      unlike w Look (h .5),
+      unlike w Drop (h .6),
+      unlike w Tally (h .7),
+    )
 
 -- the words `all` begin with a word that names the form r, or no form
 pub by-name : (r : Option Form) (all : List (List ℕ)) (w : List ℕ) (ws : List (List ℕ)) → all ≡ w ∷ ws → Cases r (Nameless w) (λ f. Names w f) → Cases r (form all ≡ None) (λ f. all ≡ name-of f ∷ ws)

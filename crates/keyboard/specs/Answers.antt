@@ -5,7 +5,7 @@ use lib.Chars.{codes}
 use Rattle.std.specs.Written.{decimal}
 use Rattle.model.specs.Refusals.{number-of}
 use Rattle.model.specs.declared.calls.Reply.{Reply}
-use Rattle.model.specs.declared.calls.Reply.the-variants.{Number, Done, Refused}
+use Rattle.model.specs.declared.calls.Reply.the-variants.{Number, Nothing, Done, Refused}
 
 -- every answer ends in a line feed
 abbrev pub line-feed : List ℕ
@@ -13,5 +13,6 @@ line-feed = 10 ∷ []
 
 abbrev pub answer-line : Reply → List ℕ
 answer-line (Number n) = codes "ok " ++ (decimal n ++ line-feed)
+answer-line Nothing = codes "ok none" ++ line-feed
 answer-line Done = codes "ok" ++ line-feed
 answer-line (Refused why) = codes "refused " ++ (decimal (number-of why) ++ line-feed)

@@ -8,7 +8,7 @@ use Rattle.std.specs.Written.{decimal}
 use Rattle.std.specs.declared.option.Option.the-variants.{Some}
 use Rattle.model.specs.Refusals.{number-of}
 use Rattle.model.specs.declared.calls.Reply.{Reply}
-use Rattle.model.specs.declared.calls.Reply.the-variants.{Number, Done, Refused}
+use Rattle.model.specs.declared.calls.Reply.the-variants.{Number, Nothing, Done, Refused}
 use Rattle.keyboard.specs.Answers.{answer-line}
 use Rattle.keyboard.specs.Lines.{numeral, meaning}
 
@@ -24,18 +24,26 @@ pub record Suffices (k : ℕ) : Type 0 where
 -- replies of one kind, with one number
 abbrev pub Alike : Reply → Reply → Type 0
 Alike (Number m) (Number n) = m ≡ n
+Alike (Number m) Nothing = ⊥
 Alike (Number m) Done = ⊥
 Alike (Number m) (Refused b) = ⊥
+Alike Nothing (Number n) = ⊥
+Alike Nothing Nothing = Unit {0}
+Alike Nothing Done = ⊥
+Alike Nothing (Refused b) = ⊥
 Alike Done (Number n) = ⊥
+Alike Done Nothing = ⊥
 Alike Done Done = Unit {0}
 Alike Done (Refused b) = ⊥
 Alike (Refused a) (Number n) = ⊥
+Alike (Refused a) Nothing = ⊥
 Alike (Refused a) Done = ⊥
 Alike (Refused a) (Refused b) = number-of a ≡ number-of b
 
 -- a reply whose number fits 64 bits
 abbrev pub Fits : Reply → Type 0
 Fits (Number n) = n < 2 ^ 64
+Fits Nothing = Unit {0}
 Fits Done = Unit {0}
 Fits (Refused a) = number-of a < 2 ^ 64
 

@@ -10,7 +10,7 @@ use Rattle.std.specs.shelf.Text.{allDigits, sameBytes}
 use Rattle.std.specs.declared.option.Option.{Option}
 use Rattle.std.specs.declared.option.Option.the-variants.{Some, None}
 use Rattle.model.specs.declared.calls.Call.{Call}
-use Rattle.model.specs.declared.calls.Call.the-variants.{Make, Hold, Byte, Look, Tally}
+use Rattle.model.specs.declared.calls.Call.the-variants.{Make, Hold, Load, Link, Byte, Look, Drop, Tally}
 
 -- a byte in front of a line with these words (there is at least one): a space begins a word, any other byte lengthens the first
 abbrev pub begun : ℕ → List (List ℕ) → List (List ℕ)
@@ -78,10 +78,13 @@ form [] = None
 form (c ∷ ws) =
     cond (is "make" c) (alone Make ws)
     (cond (is "hold" c) (made (one ws) (λ r. Some (Hold r)))
+    (cond (is "load" c) (made (two ws) (λ n. Some (Load (n .0) (n .1))))
+    (cond (is "link" c) (made (three ws) (λ n. Some (Link (n .0) (n .1) (n .2))))
     (cond (is "byte" c) (made (three ws) byte-call)
     (cond (is "look" c) (made (two ws) (λ n. Some (Look (n .0) (n .1))))
+    (cond (is "drop" c) (made (one ws) (λ r. Some (Drop r)))
     (cond (is "tally" c) (alone Tally ws)
-    None))))
+    None)))))))
 
 -- the call that a line means; none where it is outside the forms or longer than 80 bytes
 abbrev pub meaning : List ℕ → Option Call

@@ -8,9 +8,9 @@ use Rattle.std.specs.shelf.Lists.{All}
 use Rattle.std.specs.declared.option.Option.{Option}
 use Rattle.std.specs.declared.option.Option.the-variants.{Some, None}
 use Rattle.model.specs.declared.calls.Call.{Call}
-use Rattle.model.specs.declared.calls.Call.the-variants.{Make, Hold, Byte, Look, Tally}
+use Rattle.model.specs.declared.calls.Call.the-variants.{Make, Hold, Load, Link, Byte, Look, Drop, Tally}
 use Rattle.model.specs.declared.calls.Reply.{Reply}
-use Rattle.model.specs.declared.calls.Reply.the-variants.{Number, Done, Refused}
+use Rattle.model.specs.declared.calls.Reply.the-variants.{Number, Nothing, Done, Refused}
 use Rattle.model.specs.declared.refusals.Refusal.the-variants.{NotHeld, BadLine}
 use Rattle.keyboard.specs.Answers.{answer-line, line-feed}
 use Rattle.keyboard.specs.Lines.{meaning}
@@ -23,7 +23,10 @@ lines =
     ∷ (codes "hold 17", Some (Hold 17))
     ∷ (codes "hold 0", Some (Hold 0))
     ∷ (codes "hold 65537", Some (Hold 65537))
+    ∷ (codes "load 3 0", Some (Load 3 0))
+    ∷ (codes "link 1 2 3", Some (Link 1 2 3))
     ∷ (codes "look 1 256", Some (Look 1 256))
+    ∷ (codes "drop 200", Some (Drop 200))
     ∷ (codes "byte 1 2 255", Some (Byte 1 2 255))
     -- a value above 255, a leading zero, six digits, a sign
     ∷ (codes "byte 1 2 256", None)
@@ -54,6 +57,7 @@ answers =
     (Number 0, codes "ok 0" ++ line-feed)
     ∷ (Number 120, codes "ok 120" ++ line-feed)
     ∷ (Number 4095, codes "ok 4095" ++ line-feed)
+    ∷ (Nothing, codes "ok none" ++ line-feed)
     ∷ (Done, codes "ok" ++ line-feed)
     ∷ (Refused NotHeld, codes "refused 3" ++ line-feed)
     ∷ (Refused BadLine, codes "refused 14" ++ line-feed)

@@ -61,6 +61,14 @@ fn call(kind: Form, words: Words<'_>) -> Option<Call>
     match kind {
         Form::Make => alone(Call::Make, words),
         Form::Hold => Some(Call::Hold(one(words)?)),
+        Form::Load => {
+            let (record, link) = two(words)?;
+            Some(Call::Load(record, link))
+        }
+        Form::Link => {
+            let (record, link, target) = three(words)?;
+            Some(Call::Link(record, link, target))
+        }
         Form::Byte => {
             let (record, byte, value) = three(words)?;
             byte_call(record, byte, value)
@@ -69,6 +77,7 @@ fn call(kind: Form, words: Words<'_>) -> Option<Call>
             let (record, byte) = two(words)?;
             Some(Call::Look(record, byte))
         }
+        Form::Drop => Some(Call::Drop(one(words)?)),
         Form::Tally => alone(Call::Tally, words),
     }
 }

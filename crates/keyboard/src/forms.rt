@@ -6,8 +6,11 @@ ghost use Rattle.keyboard.specs.Names.{Names, Nameless};
 pub(crate) enum Form {
     Make,
     Hold,
+    Load,
+    Link,
     Byte,
     Look,
+    Drop,
     Tally,
 }
 
@@ -19,8 +22,11 @@ impl Form {
         match word {
             b"make" => Some(Form::Make),
             b"hold" => Some(Form::Hold),
+            b"load" => Some(Form::Load),
+            b"link" => Some(Form::Link),
             b"byte" => Some(Form::Byte),
             b"look" => Some(Form::Look),
+            b"drop" => Some(Form::Drop),
             b"tally" => Some(Form::Tally),
             _ => None,
         }

@@ -35,5 +35,5 @@ pub fn worked_examples() -> usize
     ensures count { λ r. ⌜ r ≡ length lines + length answers ⌝ }
 {
     theorems();
-    29
+    33
 }

@@ -8,8 +8,9 @@ use lib.Dec.{eqb, leb, ltb}
 use Rattle.std.proofs.shelf.Tests.{cond-true, cond-false, ne-eqb, eq-eqb, le-leb, lt-leb, lt-ltb, le-ltb, and-right}
 use Rattle.kinds.specs.Rows.{Shape}
 use Rattle.model.specs.State.{State, head, raised, held-more, with-head}
-use Rattle.model.specs.Calls.{Answered, refused, is-held, taken, make, hold, hold-more, at-byte}
+use Rattle.model.specs.Calls.{Answered, refused, is-held, asked, taken, make, hold-more}
 use Rattle.model.specs.declared.calls.Reply.the-variants.{Number}
+use Rattle.model.specs.declared.refusals.Refusal.the-variants.{TooManyHolds}
 
 -- the test of a record: one of the store's, and held
 pub held-test : (s : State) (r h : ℕ) → 1 ≤ r → r ≤ length (s .rows) → h ≡ head s r .holds → ltb 0 h ≡ is-held s r
@@ -28,13 +29,15 @@ not-held-above s r h =
 pub make-accepted : (s : State) → (s .front ≡ 0 → ⊥) → make s ≡ record { reply = Number (s .front); store = taken s (s .front) }
 make-accepted s n = cond-false (eqb (s .front) 0) _ _ (ne-eqb (s .front) 0 n)
 
-pub hold-tested : (s : State) (r : ℕ) → is-held s r ≡ true → hold s r ≡ hold-more s r
-hold-tested s r e = cond-true (is-held s r) _ _ e
+-- the three ways out of a question
+module _ (s : State) (f : Unit {0} → Answered) where
+  pub asked-yes : (held field : Bool) → held ≡ true → field ≡ true → asked held field s f ≡ f tt
+  asked-yes held field h b = ap (λ x. asked x field s f) h ∙ ap (λ x. asked true x s f) b
 
 pub hold-more-accepted :
-    (s : State) (r : ℕ) → head s r .holds < 1000 →
-    hold-more s r ≡ record { reply = Number (head s r .holds + 1); store = with-head s r (held-more (raised (head s r))) }
-hold-more-accepted s r l = cond-true (ltb (head s r .holds) 1000) _ _ (lt-ltb (head s r .holds) 1000 l)
+    (s : State) (r n : ℕ) → head s r .holds < 1000 →
+    hold-more s r n ≡ record { reply = Number n; store = with-head s r (held-more (raised (head s r))) }
+hold-more-accepted s r n l = cond-true (ltb (head s r .holds) 1000) _ _ (lt-ltb (head s r .holds) 1000 l)
 
-pub byte-accepted : (k : Shape) (s : State) (r b : ℕ) (a : Answered) → is-held s r ≡ true → b < k .bytes → at-byte k s r b a ≡ a
-byte-accepted k s r b a e l = cond-true (is-held s r) _ _ e ∙ cond-true (ltb b (k .bytes)) _ _ (lt-ltb b (k .bytes) l)
+pub hold-more-refused : (s : State) (r n : ℕ) → 1000 ≤ head s r .holds → hold-more s r n ≡ refused TooManyHolds s
+hold-more-refused s r n l = cond-false (ltb (head s r .holds) 1000) _ _ (le-ltb (head s r .holds) 1000 l)

@@ -1,7 +1,7 @@
 -- Every history of calls: one induction over the list of calls.
 use Prim.Native.Nat.{ℕ, zero, suc, _+_, _-_, _≤_, _<_, min}
 use mathlib.Core.Path.{_≡_, refl, sym, ap, subst, _∙_}
-use mathlib.Core.Bool.{Bool, true, false, not, cond, _&&_}
+use mathlib.Core.Bool.{Bool, true, false, not, cond, _&&_, _||_}
 use mathlib.Core.Logic.{_≢_, _⊎_, inl, inr, ⊎-elim}
 use mathlib.Core.List.{List, [], _∷_, _++_, map}
 use native.Mathlib.Omega.{arith}
@@ -12,19 +12,25 @@ use Rattle.std.specs.shelf.Lists.{countBy}
 use Rattle.std.proofs.shelf.Lists.{length-set, length-replicate, getD-replicate, getD-set-same, getD-set-other, map-append}
 use Rattle.std.proofs.shelf.Sums.{sumBy-cons, sumBy-set}
 use Rattle.std.proofs.shelf.Tests.{both-ways, true≢false, false≢true, cond-both, and-parts, not-true, eqb-false, leb-true, ltb-true, cases-eq}
-use Rattle.kinds.specs.Rows.{Row, Shape, blank, with-byte}
-use Rattle.model.specs.State.{State, Header, Within, head, row, no-row, in-use, free-header, made-header, raised, held-more, with-head, with-row, with-front}
-use Rattle.model.specs.Calls.{Answered, Played, refused, is-held, taken, make, hold, at-byte, byte, look, answered, new, played}
-use Rattle.model.specs.Lawful.{Lawful, Held, Chain, naming, once}
-use Rattle.model.specs.History.{Event, Entry, Ledger, entry, no-entry, empty-ledger, one-more, byte-written, noted, ledger, made-by, given-by, makes, give-ups, in-play, Promises, After, Goes-on, events, then}
+use Rattle.kinds.specs.Rows.{Row, Shape, blank, with-link, with-byte}
+use Rattle.model.specs.State.{State, Header, Within, head, row, no-row, in-use, free-header, made-header, raised, held-more, held-less, with-head, with-row, with-front}
+use Rattle.model.specs.Calls.{Answered, Played, refused, is-held, asked, taken, make, hold, hold-more, hold-answer, load, load-answer, started, raised-at, relinked, link, link-answer, byte, byte-answer, look, look-answer, drop, drop-answer, answered, new, played}
+use Rattle.model.specs.Lawful.{Lawful, Used, Held, Links, Chain, naming, once}
+use Rattle.model.specs.Release.{lower}
+use Rattle.model.specs.Walk.{Progress}
+use Rattle.model.specs.History.{Event, Entry, Ledger, entry, no-entry, empty-ledger, one-more, one-less, linked, byte-written, noted, ledger, made-by, given-by, makes, give-ups, in-play, Promises, After, Goes-on, events, then}
 use Rattle.model.specs.declared.calls.Call.{Call}
-use Rattle.model.specs.declared.calls.Call.the-variants.{Make, Hold, Byte, Look, Tally}
+use Rattle.model.specs.declared.calls.Call.the-variants.{Make, Hold, Load, Link, Byte, Look, Drop, Tally}
 use Rattle.model.specs.declared.calls.Reply.{Reply}
-use Rattle.model.specs.declared.calls.Reply.the-variants.{Number, Done, Refused}
+use Rattle.model.specs.declared.calls.Reply.the-variants.{Number, Nothing, Done, Refused}
 use Rattle.model.specs.declared.refusals.Refusal.{Refusal}
 use Rattle.model.specs.declared.refusals.Refusal.the-variants.{Full, NotHeld, NoSuchField, TooManyHolds}
-use Rattle.model.proofs.Places.{each-set, each-both}
-use Rattle.model.proofs.LawfulCalls.{held-used, held-from-test, front-free, lawful-answered}
+use Rattle.model.proofs.Places.{each-set, each-head, each-both}
+use Rattle.model.proofs.Counting.{naming-has, naming-le-named}
+use Rattle.model.proofs.LawfulCalls.{held-used, held-from-test, front-free}
+use Rattle.model.proofs.LawfulAnswers.{lawful-answered, asked-both, target-from-test, owing-relinked}
+use Rattle.model.proofs.Owing.{owing-drop}
+use Rattle.model.proofs.Unharmed.{Unharmed, lower-unharmed, unharmed-start}
 use Rattle.model.proofs.NewStore.{lawful-new, new-head, new-row, in-use-new}
 use Rattle.model.proofs.Ledgers.{Agrees, playing, counts-agree, reachable-kept}
 
@@ -32,6 +38,54 @@ use Rattle.model.proofs.Ledgers.{Agrees, playing, counts-agree, reachable-kept
 pub record Kept (k : Shape) (l : Ledger) (s : State) (c : Call) (a : Answered) : Type 0 where
   pub agrees : Agrees (noted k l c (a .reply)) (a .store)
   pub accounted : made-by c (a .reply) + in-use s ≡ in-use (a .store) + given-by c (a .reply)
+
+-- one row, and the entry beside it
+agrees-with-row :
+    (l : Ledger) (s : State) → Agrees l s → (x : ℕ) (w : Row) (e : Entry) → Within s x → e .holds ≡ entry l x .holds → (in-play (head s x) ≡ true → e .row ≡ w) →
+    Agrees (set l (x - 1) e) (with-row s x w)
+agrees-with-row l s agrees x w e inside holds rows = record {
+  same-size = length-set l (x - 1) e ∙ agrees .same-size ∙ sym size;
+  same-holds = λ y a.
+      each-set l no-entry x e (λ z g. Within s z → g .holds ≡ head s z .holds) (inside .0) (omega (arith, inside .1, agrees .same-size))
+      (λ v. holds ∙ agrees .same-holds x v) (λ z _ _ _. agrees .same-holds z) y (a .0) (omega (arith, a .1, agrees .same-size, size)) (before y a);
+  same-row = λ y a.
+      each-both l no-entry (s .rows) no-row x e w (λ z g d. Within s z → in-play (head s z) ≡ true → g .row ≡ d)
+      (inside .0) (omega (arith, inside .1, agrees .same-size)) (inside .1) (λ _. rows) (λ z _ _. agrees .same-row z) y (a .0) (before y a);
+}
+  where
+    size : length (set (s .rows) (x - 1) w) ≡ length (s .rows)
+    size = length-set (s .rows) (x - 1) w
+
+    before : (y : ℕ) → Within (with-row s x w) y → Within s y
+    before y a = (a .0, omega (arith, a .1, size))
+
+-- a record that is raised was in play, and keeps its holds
+agrees-raised : (k : Shape) (l : Ledger) (s : State) (t : ℕ) → Lawful k s → Agrees l s → (t ≡ 0) ⊎ Held s t → Agrees l (raised-at s t)
+agrees-raised k l s t law agrees target =
+    cond-both (eqb t 0) s (with-head s t (raised (head s t))) (Agrees l) (λ _. agrees)
+    (λ e. elim target [
+      | inl z ↦ absurd (eqb-false t 0 e z)
+      | inr h ↦
+          let live = held-used k s t law h in
+          record {
+            same-size = agrees .same-size;
+            same-holds = each-head s t (h .0) (raised (head s t)) (λ y d. entry l y .holds ≡ d .holds) (law .heads-fit)
+                (agrees .same-holds t (h .0)) (λ y v _. agrees .same-holds y v);
+            same-row = each-head s t (h .0) (raised (head s t)) (λ y d. in-play d ≡ true → entry l y .row ≡ row s y) (law .heads-fit)
+                (λ _. agrees .same-row t (h .0) (playing (head s t) (live .0) (live .1))) (λ y v _. agrees .same-row y v);
+          }
+    ])
+
+-- what a release leaves agrees with the ledger as what it began with
+agrees-unharmed : (l : Ledger) (s : State) (c : ℕ) (g : Progress) → Agrees l s → Unharmed s c g → Agrees l (g .store)
+agrees-unharmed l s c g agrees J = record {
+  same-size = agrees .same-size ∙ sym (J .same-size);
+  same-holds = λ r w. let v : Within s r = (w .0, omega (arith, w .1, J .same-size)) in agrees .same-holds r v ∙ sym (J .same-holds r v);
+  same-row = λ r w p.
+      let v : Within s r = (w .0, omega (arith, w .1, J .same-size)) in
+      let q = J .same-row r v p in
+      agrees .same-row r v (q .0) ∙ sym (q .1);
+}
 
 module _ (k : Shape) (l : Ledger) (s : State) (law : Lawful k s) (agrees : Agrees l s) where
   kept-refused : (c : Call) (e : Refusal) → Kept k l s c (refused e s)
@@ -69,69 +123,118 @@ module _ (k : Shape) (l : Ledger) (s : State) (law : Lawful k s) (agrees : Agree
         accounted = omega (arith, in-use-with-head (s .front) made-header (f .within), ap once (f .free));
       })
 
+  kept-hold-more :
+      (c : Call) (x n : ℕ) → Used s x → 0 < head s x .count → noted k l c (Number n) ≡ one-more l x → made-by c (Number n) ≡ 0 → given-by c (Number n) ≡ 0 →
+      Kept k l s c (hold-more s x n)
+  kept-hold-more c x n u counted notes makes-none gives-none = cond-both (ltb (head s x .holds) 1000) _ _ (Kept k l s c)
+      (λ _. record {
+        agrees = subst (λ m. Agrees m (with-head s x (held-more (raised (head s x))))) (sym notes)
+            (agrees-with-head x (held-more (raised (head s x))) (record { holds = entry l x .holds + 1; row = entry l x .row }) (s .front) (u .0)
+            (ap (λ m. m + 1) (agrees .same-holds x (u .0))) (λ _. agrees .same-row x (u .0) (playing (head s x) (u .1) counted)));
+        accounted = omega (arith, in-use-with-head x (held-more (raised (head s x))) (u .0), makes-none, gives-none);
+      })
+      (λ _. kept-refused c TooManyHolds)
+
   kept-hold : (r : ℕ) → Kept k l s (Hold r) (hold s r)
-  kept-hold r = cond-both (is-held s r) _ _ (Kept k l s (Hold r))
-      (λ e. cond-both (ltb (head s r .holds) 1000) _ _ (Kept k l s (Hold r)) (more (held-from-test s r e)) (λ _. kept-refused (Hold r) TooManyHolds))
-      (λ _. kept-refused (Hold r) NotHeld)
+  kept-hold r = asked-both (is-held s r) true s (λ _. hold-answer s r) (Kept k l s (Hold r))
+      (λ e _.
+      let held = held-from-test s r e in
+      let live = held-used k s r law held in
+      kept-hold-more (Hold r) r (head s r .holds + 1) (held .0, live .0) (live .1) refl refl refl)
+      (kept-refused (Hold r) NoSuchField) (kept-refused (Hold r) NotHeld)
+
+  kept-load : (r i : ℕ) → Kept k l s (Load r i) (load k s r i)
+  kept-load r i = asked-both (is-held s r) (ltb i (k .links)) s (λ _. load-answer s r i) (Kept k l s (Load r i))
+      (λ e _. cond-both (eqb t 0) _ _ (Kept k l s (Load r i)) (λ _. record { agrees = agrees; accounted = omega arith })
+      (λ n.
+      let held = held-from-test s r e in
+      let ties : Links s r t = (positive t (eqb-false t 0 n), (i, refl)) in
+      let u = law .links-used r t (held .0) ties in
+      let m = naming-has (row s r .links) i t (ties .0) refl in
+      kept-hold-more (Load r i) t t u (omega (arith, law .counts t (u .0), m, naming-le-named s r t (held .0))) refl refl refl))
+      (kept-refused (Load r i) NoSuchField) (kept-refused (Load r i) NotHeld)
     where
-      more :
-          Held s r → ltb (head s r .holds) 1000 ≡ true →
-          Kept k l s (Hold r) (record { reply = Number (head s r .holds + 1); store = with-head s r (held-more (raised (head s r))) })
-      more held less =
-          let live = held-used k s r law held in
-          record {
-            agrees =
-                agrees-with-head r (held-more (raised (head s r))) (record { holds = entry l r .holds + 1; row = entry l r .row }) (s .front) (held .0)
-                (ap (λ n. n + 1) (agrees .same-holds r (held .0)))
-                (λ _. agrees .same-row r (held .0) (playing (head s r) (live .0) (live .1)));
-            accounted = omega (arith, in-use-with-head r (held-more (raised (head s r))) (held .0));
-          }
+      t : ℕ
+      t = getD (row s r .links) i 0
+
+      positive : (n : ℕ) → (n ≡ 0 → ⊥) → 1 ≤ n
+      positive zero f = absurd (f refl)
+      positive (suc n) f = omega arith
 
   kept-byte : (r b v : ℕ) → Kept k l s (Byte r b v) (byte k s r b v)
-  kept-byte r b v = cond-both (is-held s r) _ _ (Kept k l s (Byte r b v))
-      (λ e. cond-both (ltb b (k .bytes)) _ _ (Kept k l s (Byte r b v)) (λ _. written (held-from-test s r e)) (λ _. kept-refused (Byte r b v) NoSuchField))
-      (λ _. kept-refused (Byte r b v) NotHeld)
-    where
-      entry-after : Entry
-      entry-after = record { holds = entry l r .holds; row = with-byte (entry l r .row) b v }
-
-      size : length (set (s .rows) (r - 1) (with-byte (row s r) b v)) ≡ length (s .rows)
-      size = length-set (s .rows) (r - 1) (with-byte (row s r) b v)
-
-      before : (y : ℕ) → Within (with-row s r (with-byte (row s r) b v)) y → Within s y
-      before y a = (a .0, omega (arith, size))
-
-      written : Held s r → Kept k l s (Byte r b v) (record { reply = Done; store = with-row s r (with-byte (row s r) b v) })
-      written held =
-          let live = held-used k s r law held in
-          let same = agrees .same-row r (held .0) (playing (head s r) (live .0) (live .1)) in
-          record {
-            agrees = record {
-              same-size = length-set l (r - 1) entry-after ∙ agrees .same-size ∙ sym size;
-              same-holds = λ y a.
-                  each-set l no-entry r entry-after (λ z g. Within s z → g .holds ≡ head s z .holds) (held .0 .0) (omega (arith, agrees .same-size))
-                  (agrees .same-holds r) (λ z _ _ _. agrees .same-holds z) y (a .0) (omega (arith, agrees .same-size, size)) (before y a);
-              same-row = λ y a.
-                  each-both l no-entry (s .rows) no-row r entry-after (with-byte (row s r) b v)
-                  (λ z g w. Within s z → in-play (head s z) ≡ true → g .row ≡ w)
-                  (held .0 .0) (omega (arith, agrees .same-size)) (held .0 .1) (λ _ _. ap (λ w. with-byte w b v) same)
-                  (λ z _ _. agrees .same-row z) y (a .0) (before y a);
-            };
-            accounted = omega arith;
-          }
+  kept-byte r b v = asked-both (is-held s r) (ltb b (k .bytes)) s (λ _. byte-answer s r b v) (Kept k l s (Byte r b v))
+      (λ e _.
+      let held = held-from-test s r e in
+      let live = held-used k s r law held in
+      record {
+        agrees = agrees-with-row l s agrees r (with-byte (row s r) b v) (record { holds = entry l r .holds; row = with-byte (entry l r .row) b v }) (held .0) refl
+            (λ p. ap (λ w. with-byte w b v) (agrees .same-row r (held .0) p));
+        accounted = omega arith;
+      })
+      (kept-refused (Byte r b v) NoSuchField) (kept-refused (Byte r b v) NotHeld)
 
   kept-look : (r b : ℕ) → Kept k l s (Look r b) (look k s r b)
-  kept-look r b = cond-both (is-held s r) _ _ (Kept k l s (Look r b))
-      (λ _. cond-both (ltb b (k .bytes)) _ _ (Kept k l s (Look r b))
-      (λ _. record { agrees = agrees; accounted = omega arith })
-      (λ _. kept-refused (Look r b) NoSuchField))
-      (λ _. kept-refused (Look r b) NotHeld)
+  kept-look r b = asked-both (is-held s r) (ltb b (k .bytes)) s (λ _. look-answer s r b) (Kept k l s (Look r b))
+      (λ _ _. record { agrees = agrees; accounted = omega arith }) (kept-refused (Look r b) NoSuchField) (kept-refused (Look r b) NotHeld)
+
+  in-use-raised : (t : ℕ) → (t ≡ 0) ⊎ Held s t → in-use (raised-at s t) ≡ in-use s
+  in-use-raised t target =
+      cond-both (eqb t 0) s (with-head s t (raised (head s t))) (λ y. in-use y ≡ in-use s) (λ _. refl)
+      (λ e. elim target [ inl z ↦ absurd (eqb-false t 0 e z) | inr h ↦ omega (arith, in-use-with-head t (raised (head s t)) (h .0)) ])
+
+  raised-same-rows : (t : ℕ) → raised-at s t .rows ≡ s .rows
+  raised-same-rows t = cond-both (eqb t 0) s (with-head s t (raised (head s t))) (λ y. y .rows ≡ s .rows) (λ _. refl) (λ _. refl)
+
+  -- the held record x is in play after the raise too
+  raised-plays : (x t : ℕ) → Held s x → in-play (head s x) ≡ true
+  raised-plays x t h = let live = held-used k s x law h in playing (head s x) (live .0) (live .1)
+
+  kept-link : (r i t : ℕ) → Kept k l s (Link r i t) (link k s r i t)
+  kept-link r i t = asked-both (is-held s r && (eqb t 0 || is-held s t)) (ltb i (k .links)) s (λ _. link-answer k s r i t) (Kept k l s (Link r i t))
+      (λ e f.
+      let p = target-from-test s r t e in
+      let owing = owing-relinked k s r i t law (p .0) (p .1) (ltb-true i (k .links) f) in
+      let start = relinked (raised-at s t) r i t in
+      let J = lower-unharmed k start (in-use start + 0) (started start) (getD (row s r .links) i 0) owing (unharmed-start (started start)) in
+      let rows = raised-same-rows t in
+      let inside : Within (raised-at s t) r = (p .0 .0 .0, omega (arith, p .0 .0 .1, ap length rows)) in
+      let same : row (raised-at s t) r ≡ row s r = ap (λ ws. getD ws (r - 1) no-row) rows in
+      let raised-agrees = agrees-raised k l s t law agrees (p .1) in
+      record {
+        agrees =
+            agrees-unharmed (linked l r i t) start (in-use start + 0) (lower k (started start) (getD (row s r .links) i 0))
+            (agrees-with-row l (raised-at s t) raised-agrees r (with-link (row (raised-at s t) r) i t)
+            (record { holds = entry l r .holds; row = with-link (entry l r .row) i t }) inside refl
+            (λ _. ap (λ w. with-link w i t) (agrees .same-row r (p .0 .0) (raised-plays r t (p .0)) ∙ sym same)))
+            J;
+        accounted = omega (arith, J .same-sum, in-use-raised t (p .1));
+      })
+      (kept-refused (Link r i t) NoSuchField) (kept-refused (Link r i t) NotHeld)
+
+  kept-drop : (r : ℕ) → Kept k l s (Drop r) (drop k s r)
+  kept-drop r = asked-both (is-held s r) true s (λ _. drop-answer k s r) (Kept k l s (Drop r))
+      (λ e _.
+      let held = held-from-test s r e in
+      let start = with-head s r (held-less (head s r)) in
+      let J = lower-unharmed k start (in-use start + 0) (started start) r (owing-drop k s r law held) (unharmed-start (started start)) in
+      record {
+        agrees =
+            agrees-unharmed (one-less l r) start (in-use start + 0) (lower k (started start) r)
+            (agrees-with-head r (held-less (head s r)) (record { holds = entry l r .holds - 1; row = entry l r .row }) (s .front) (held .0)
+            (ap (λ n. n - 1) (agrees .same-holds r (held .0))) (λ p. agrees .same-row r (held .0) p))
+            J;
+        accounted = omega (arith, J .same-sum, in-use-with-head r (held-less (head s r)) (held .0));
+      })
+      (kept-refused (Drop r) NoSuchField) (kept-refused (Drop r) NotHeld)
 
   pub kept-answered : (c : Call) → Kept k l s c (answered k s c)
   kept-answered Make = kept-make
   kept-answered (Hold r) = kept-hold r
+  kept-answered (Load r i) = kept-load r i
+  kept-answered (Link r i t) = kept-link r i t
   kept-answered (Byte r b v) = kept-byte r b v
   kept-answered (Look r b) = kept-look r b
+  kept-answered (Drop r) = kept-drop r
   kept-answered Tally = record { agrees = agrees; accounted = omega arith }
 
 -- From a lawful store that agrees with a ledger, over any list of calls.

@@ -14,9 +14,7 @@ use Rattle.std.proofs.shelf.Elements.{all-from-getD}
 use native.Mathlib.Nat.{mul-le-mul-right}
 use Rattle.kinds.specs.Rows.{Row, Shape, Bounded, blank, with-byte}
 use Rattle.model.specs.State.{State, Header, Within, head, row, no-row, free-header, made-header, raised, held-more, with-head, with-row, with-front}
-use Rattle.model.specs.Calls.{Answered, is-held, taken, make, hold, at-byte, answered}
-use Rattle.model.specs.declared.calls.Call.{Call}
-use Rattle.model.specs.declared.calls.Call.the-variants.{Make, Hold, Byte, Look, Tally}
+use Rattle.model.specs.Calls.{is-held, taken}
 use Rattle.model.specs.Lawful.{Lawful, Proper, From, Used, Held, Links, Reachable, Spent, Candidate, Chain, naming, named, once}
 use Rattle.model.specs.Lawful.From.{here, along}
 use Rattle.model.specs.declared.heads.Colour.the-variants.{Black, Purple}
@@ -147,10 +145,10 @@ module _ (k : Shape) (s : State) (x : ℕ) (law : Lawful k s) (w : Within s x) (
 
 -- Hold.
 pub lawful-held-more :
-    (k : Shape) (s : State) (x : ℕ) → Lawful k s → Held s x → head s x .holds < 1000 →
+    (k : Shape) (s : State) (x : ℕ) → Lawful k s → Used s x → head s x .holds < 1000 →
     Lawful k (with-head s x (held-more (raised (head s x))))
-lawful-held-more k s x law held less =
-    lawful-held-head k s x more law w (omega arith) (live .0) (s .front) proper refl (omega (arith, law .counts x w)) (
+lawful-held-more k s x law used less =
+    lawful-held-head k s x more law w (omega arith) (used .1) (s .front) proper refl (omega (arith, law .counts x w)) (
       law .chain .0,
       chain-elsewhere s x more w (law .chain .0) (s .front) absent (law .chain .1),
       each-head s x w more
@@ -158,10 +156,7 @@ lawful-held-more k s x law held less =
     )
   where
     w : Within s x
-    w = held .0
-
-    live : (head s x .used ≡ true) × (0 < head s x .count)
-    live = held-used k s x law held
+    w = used .0
 
     more : Header
     more = held-more (raised (head s x))
@@ -177,14 +172,14 @@ lawful-held-more k s x law held less =
         holds-few = omega arith;
         holds-counted = omega (arith, own .settled .holds-counted);
         used-unchained = own .settled .used-unchained;
-        free-blank = λ z. absurd (both-ways (head s x .used) z (live .0));
+        free-blank = λ z. absurd (both-ways (head s x .used) z (used .1));
       };
       coloured = inl refl;
       spent-waits = λ _ z. let no : ⊥ = omega arith in absurd no;
     }
 
     absent : naming x (law .chain .0) ≡ 0
-    absent = omega (arith, law .chain .2 x w, ap once (live .0))
+    absent = omega (arith, law .chain .2 x w, ap once (used .1))
 
 -- Byte write: links, counts and everything but one byte stay.
 module _ (k : Shape) (s : State) (x : ℕ) (law : Lawful k s) (held : Held s x) (b v : ℕ) where
@@ -286,36 +281,8 @@ fronted-by s (x ∷ rs) c each n = record {
 }
 
 module _ (k : Shape) (s : State) (law : Lawful k s) where
-  abbrev LawfulAfter : Answered → Type 0
-  LawfulAfter a = Lawful k (a .store)
-
   pub front-free : (s .front ≡ 0 → ⊥) → Fronted s
   front-free n = fronted-by s (law .chain .0) (law .chain .1) (law .chain .2) n
-
-  lawful-at-byte : (r b : ℕ) (a : Answered) → (Held s r → Lawful k (a .store)) → Lawful k (at-byte k s r b a .store)
-  lawful-at-byte r b a f = cond-both (is-held s r) _ _ LawfulAfter
-      (λ e. cond-both (ltb b (k .bytes)) _ _ LawfulAfter (λ _. f (held-from-test s r e)) (λ _. law))
-      (λ _. law)
-
-  lawful-make : Lawful k (make s .store)
-  lawful-make = cond-both (eqb (s .front) 0) _ _ LawfulAfter (λ _. law)
-      (λ e.
-      let f = front-free (eqb-false (s .front) 0 e) in
-      lawful-taken k s (s .front) law (f .within) (f .free) (f .rest) (f .chained) (f .once-each))
-
-  lawful-hold : (r : ℕ) → Lawful k (hold s r .store)
-  lawful-hold r = cond-both (is-held s r) _ _ LawfulAfter
-      (λ e. cond-both (ltb (head s r .holds) 1000) _ _ LawfulAfter
-      (λ l. lawful-held-more k s r law (held-from-test s r e) (ltb-true (head s r .holds) 1000 l)) (λ _. law))
-      (λ _. law)
-
-  -- Every call leaves a lawful store lawful.
-  pub lawful-answered : (c : Call) → Lawful k (answered k s c .store)
-  lawful-answered Make = lawful-make
-  lawful-answered (Hold r) = lawful-hold r
-  lawful-answered (Byte r b v) = lawful-at-byte r b _ (λ held. lawful-byte k s r law held b v)
-  lawful-answered (Look r b) = lawful-at-byte r b _ (λ _. law)
-  lawful-answered Tally = law
 
   -- No count can pass what 4,095 records of 16 links and a thousand holds add up to.
   pub count-small : Bounded k → (r : ℕ) → Within s r → head s r .count ≤ 66520

@@ -5,7 +5,12 @@ pub mod Counting
 pub mod LawfulCalls
 pub mod NewStore
 pub mod Ledgers
-pub mod Histories
-pub mod Accepted
 pub mod Releases
 pub mod Walks
+pub mod Lowering
+pub mod Owing
+pub mod LawfulAnswers
+pub mod Unharmed
+pub mod Accepted
+pub mod Histories
+pub mod Listing

@@ -29,3 +29,12 @@ from-past Gone known starts lost kept (along {r = q} f l) =
       | inl g ↦ inr (here (lost _ _ l g))
       | inr not-gone ↦ elim (from-past Gone known starts lost kept f) [ inl g ↦ absurd (not-gone g) | inr p ↦ inr (along p (kept _ _ l not-gone)) ]
     ]
+
+-- Along links that stay inside W: each link either goes on as another, or what it leads to is come to afresh.
+pub from-inside :
+    {P Q : ℕ → Type 0} {To On : ℕ → ℕ → Type 0} (W : ℕ → Type 0) → ((r : ℕ) → P r → W r) → ((r t : ℕ) → W r → To r t → W t) →
+    ((r : ℕ) → P r → Q r) → ((r t : ℕ) → W r → To r t → Q t ⊎ On r t) → {r : ℕ} → From P To r → W r × From Q On r
+from-inside W begins goes starts links (here {r = q} a) = (begins q a, here (starts q a))
+from-inside W begins goes starts links (along {r = q} {t = u} f l) =
+    let from = from-inside W begins goes starts links f in
+    (goes q u (from .0) l, elim (links q u (from .0) l) [ inl a ↦ here a | inr b ↦ along (from .1) b ])

@@ -10,10 +10,10 @@ use lib.ListN.{length, getD, set}
 use lib.Dec.{eqb}
 use Rattle.std.specs.shelf.Lists.{countBy}
 use Rattle.std.proofs.shelf.Lists.{length-replicate, length-set, getD-set-same, getD-set-other, set-getD, getD-past}
-use Rattle.std.proofs.shelf.Sums.{sumBy-cons, sumBy-set, sumBy-append, countBy-le-length}
+use Rattle.std.proofs.shelf.Sums.{sumBy-cons, sumBy-set, sumBy-append, countBy-le-length, getD-le-sumBy}
 use Rattle.std.proofs.shelf.Tests.{cases-eq, cases-bool, cases-lt, both-ways, true≢false, cond-true, cond-false, eqb-true, eqb-false, eq-eqb, ne-eqb}
 use Rattle.kinds.specs.Rows.{Row, Shape, blank}
-use Rattle.model.specs.State.{State, Header, Within, head, row, no-row, free-header, with-head, with-row, with-front, with-candidates}
+use Rattle.model.specs.State.{State, Header, Within, head, row, no-row, in-use, free-header, with-head, with-row, with-front, with-candidates}
 use Rattle.model.specs.Lawful.{From, Held, Links, Candidate, Chain, Settled, Coloured, Resting, naming, once}
 use Rattle.model.specs.Lawful.From.{here, along}
 use Rattle.model.specs.Walk.{Progress, Task, Absent, Turned, Left, Keeps}
@@ -123,11 +123,14 @@ module _ (k : Shape) (g : Progress) (Q : List Task) (I : Releasing k g (follow 0
 
 -- A link to t is followed.
 module _ (k : Shape) (g : Progress) (t : ℕ) (Q : List Task) (ne : t ≢ 0) (I : Releasing k g (follow t ∷ Q)) where
-  follow-within : Within (g .store) t
+  pub follow-within : Within (g .store) t
   follow-within = elim (I .tidy .0) [ inl z ↦ absurd (ne z) | inr w ↦ w ]
 
   follow-counted : 1 ≤ head (g .store) t .count
   follow-counted = omega (arith, I .counts t follow-within, pending-hit (g .store) t Q)
+
+  pub follow-spare : head (g .store) t .holds < head (g .store) t .count
+  follow-spare = omega (arith, I .counts t follow-within, pending-hit (g .store) t Q)
 
   follow-used : head (g .store) t .used ≡ true
   follow-used = counted-used k (head (g .store) t) (row (g .store) t) (I .each t follow-within) follow-counted
@@ -857,3 +860,20 @@ release-keeps k = record {
   passes = λ g t Q e I. release-pass k g t Q e I;
   leaves = λ g t Q I. release-leave k g t Q I;
 }
+
+-- a record that is left is in use, and so are no more than there can be without it
+pub leave-few : (k : Shape) (g : Progress) (t : ℕ) (Q : List Task) → Releasing k g (leave t ∷ Q) → 1 ≤ in-use (g .store)
+leave-few k g t Q I =
+    omega (
+      arith,
+      ap once (I .tidy .0 .in-use),
+      getD-le-sumBy (λ h. cond (h .used) 1 0) (g .store .heads) (t - 1) (free-header 0) (omega (arith, I .tidy .0 .inside, I .heads-fit)),
+    )
+
+-- the front of the chain is a record, or none
+pub front-small : (k : Shape) (g : Progress) (Q : List Task) → Releasing k g Q → g .store .front ≤ 4095
+front-small k g Q I = by-chain (I .chain .0) (I .chain .1)
+  where
+    by-chain : (rs : List ℕ) → Chain (g .store) (g .store .front) rs → g .store .front ≤ 4095
+    by-chain [] c = omega (arith, c)
+    by-chain (r ∷ rs) c = omega (arith, c .0, c .1 .0 .1, I .few)

@@ -7,14 +7,14 @@ use lib.ListN.{length, getD, set, replicate}
 use lib.Dec.{eqb}
 use Rattle.std.specs.Iters.{folded}
 use Rattle.std.specs.shelf.Lists.{sumBy}
-use Rattle.kinds.specs.Rows.{Shape, Row, blank, with-byte}
+use Rattle.kinds.specs.Rows.{Shape, Row, blank, with-link, with-byte}
 use Rattle.model.specs.State.{State, Header, Within, head, row, no-row, in-use}
 use Rattle.model.specs.Calls.{new, played}
 use Rattle.model.specs.Lawful.{From, Lawful, Used, naming}
 use Rattle.model.specs.declared.calls.Call.{Call}
-use Rattle.model.specs.declared.calls.Call.the-variants.{Make, Hold, Byte, Look, Tally}
+use Rattle.model.specs.declared.calls.Call.the-variants.{Make, Hold, Load, Link, Byte, Look, Drop, Tally}
 use Rattle.model.specs.declared.calls.Reply.{Reply}
-use Rattle.model.specs.declared.calls.Reply.the-variants.{Number, Done, Refused}
+use Rattle.model.specs.declared.calls.Reply.the-variants.{Number, Nothing, Done, Refused}
 
 -- a call with its answer
 pub record Event : Type 0 where
@@ -41,6 +41,12 @@ empty-ledger k n = replicate n (record { holds = 0; row = blank k })
 abbrev pub one-more : Ledger → ℕ → Ledger
 one-more l r = set l (r - 1) (record { holds = entry l r .holds + 1; row = entry l r .row })
 
+abbrev pub one-less : Ledger → ℕ → Ledger
+one-less l r = set l (r - 1) (record { holds = entry l r .holds - 1; row = entry l r .row })
+
+abbrev pub linked : Ledger → ℕ → ℕ → ℕ → Ledger
+linked l r i t = set l (r - 1) (record { holds = entry l r .holds; row = with-link (entry l r .row) i t })
+
 abbrev pub byte-written : Ledger → ℕ → ℕ → ℕ → Ledger
 byte-written l r b v = set l (r - 1) (record { holds = entry l r .holds; row = with-byte (entry l r .row) b v })
 
@@ -48,20 +54,27 @@ byte-written l r b v = set l (r - 1) (record { holds = entry l r .holds; row = w
 abbrev pub numbered : Shape → Ledger → Call → ℕ → Ledger
 numbered k l Make n = set l (n - 1) (record { holds = 1; row = blank k })
 numbered k l (Hold r) n = one-more l r
+numbered k l (Load r i) n = one-more l n
+numbered k l (Link r i t) n = linked l r i t
 numbered k l (Byte r b v) n = l
 numbered k l (Look r b) n = l
+numbered k l (Drop r) n = one-less l r
 numbered k l Tally n = l
 
 abbrev pub done : Ledger → Call → Ledger
 done l Make = l
 done l (Hold r) = l
+done l (Load r i) = l
+done l (Link r i t) = l
 done l (Byte r b v) = byte-written l r b v
 done l (Look r b) = l
+done l (Drop r) = l
 done l Tally = l
 
--- a refused call adds nothing
+-- a refused call and an empty load add nothing
 abbrev pub noted : Shape → Ledger → Call → Reply → Ledger
 noted k l c (Number n) = numbered k l c n
+noted k l c Nothing = l
 noted k l c Done = done l c
 noted k l c (Refused x) = l
 
@@ -72,24 +85,32 @@ ledger k n es = folded (λ l e. noted k l (e .call) (e .reply)) (empty-ledger k 
 abbrev pub is-make : Call → ℕ
 is-make Make = 1
 is-make (Hold r) = 0
+is-make (Load r i) = 0
+is-make (Link r i t) = 0
 is-make (Byte r b v) = 0
 is-make (Look r b) = 0
+is-make (Drop r) = 0
 is-make Tally = 0
 
 abbrev pub gives-up : Call → ℕ → ℕ
 gives-up Make n = 0
 gives-up (Hold r) n = 0
+gives-up (Load r i) n = 0
+gives-up (Link r i t) n = n
 gives-up (Byte r b v) n = 0
 gives-up (Look r b) n = 0
+gives-up (Drop r) n = n
 gives-up Tally n = 0
 
 abbrev pub made-by : Call → Reply → ℕ
 made-by c (Number n) = is-make c
+made-by c Nothing = 0
 made-by c Done = 0
 made-by c (Refused x) = 0
 
 abbrev pub given-by : Call → Reply → ℕ
 given-by c (Number n) = gives-up c n
+given-by c Nothing = 0
 given-by c Done = 0
 given-by c (Refused x) = 0
 

@@ -8,7 +8,7 @@ use lib.ListN.{length}
 use lib.Dec.{eqb}
 use Rattle.std.specs.shelf.Lists.{countBy}
 use Rattle.kinds.specs.Rows.{Row, Shape, blank}
-use Rattle.model.specs.State.{State, Header, Within, head, row}
+use Rattle.model.specs.State.{State, Header, Within, head, row, in-use}
 use Rattle.model.specs.Lawful.{From, Held, Links, Candidate, Chain, Settled, Coloured, Resting, naming, once}
 use Rattle.model.specs.Walk.{Progress, Task, Absent}
 use Rattle.model.specs.Walk.Task.{follow, visit, leave}
@@ -107,3 +107,7 @@ visited-ended s (leave u ∷ Q) = 0
 
 abbrev pub counted-room : Progress → List Task → ℕ
 counted-room g Q = countBy (λ h. not (eqb (h .count) 0)) (g .store .heads) + visited-ended (g .store) Q
+
+-- what is in use and what is given up are no more than the records that there can be
+abbrev pub Few-given : Progress → Type 0
+Few-given g = in-use (g .store) + g .given ≤ 4095

@@ -72,3 +72,7 @@ raised h = record { used = h .used; holds = h .holds; count = h .count + 1; colo
 -- one hold more, once the count has room for it
 abbrev pub held-more : Header → Header
 held-more h = record { used = h .used; holds = h .holds + 1; count = h .count; colour = h .colour; waiting = h .waiting; next = h .next }
+
+-- one hold less
+abbrev pub held-less : Header → Header
+held-less h = record { used = h .used; holds = h .holds - 1; count = h .count; colour = h .colour; waiting = h .waiting; next = h .next }

@@ -7,6 +7,7 @@ use denote.Ref.{now}
 use Rattle.kinds.specs.declared.kind.Kind.{Ghosts}
 use Rattle.model.specs.State.{State, header}
 use Rattle.model.specs.Lawful.{Lawful}
+use Rattle.model.specs.Walk.{Progress}
 use Rattle.store.specs.declared.table.Store.{Store}
 
 -- the first N entries of the record table and the heads, and the first entries of the list, as many as are listed
@@ -17,6 +18,10 @@ view g s = record {
   candidates = take (s .listed) (now (s .list));
   front = s .front;
 }
+
+-- the store on its way through a call
+abbrev pub progress : {K : Type 0} → Ghosts K → Store K → Progress
+progress g s = record { store = view g s; given = s .given }
 
 -- the tables have room for N records
 pub record Roomy {K : Type 0} (s : Store K) : Type 0 where

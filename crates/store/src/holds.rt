@@ -3,7 +3,8 @@ ghost use Prim.Native.Nat.{_≤_};
 ghost use mathlib.Core.Bool.{true};
 ghost use mathlib.Core.Path.{_≡_};
 ghost use Rattle.std.specs.Results.{isErr};
-ghost use Rattle.model.specs.Calls.{make, taken, hold, «hold-more», «is-held»};
+ghost use Rattle.model.specs.Calls.{make, taken, hold, «hold-more»};
+ghost use Rattle.model.specs.Lawful.{Used};
 ghost use Rattle.store.specs.Replies.{numbered, leaving};
 ghost use Rattle.store.specs.View.{view, LawfulStore, Same};
 use crate::changes::held_more;
@@ -52,14 +53,15 @@ impl<'a, K: Kind> Store<'a, K> {
         if !self.is_held(r) {
             return Err(Refusal::NotHeld);
         }
-        self.add_hold(r)
+        let holds = self.head(r).holds as usize;
+        self.add_hold(r, holds + 1)
     }
 
-    // One more hold, unless the record has the most that are allowed.
-    pub(crate) fn add_hold(&mut self, r: usize) -> Result<usize, Refusal>
+    // One more hold on a record in use, unless it has the most that are allowed. Answers what it is told to.
+    pub(crate) fn add_hold(&mut self, r: usize, answer: usize) -> Result<usize, Refusal>
         requires lawful { ⌜ LawfulStore K·Kind (now self) ⌝ }
-        requires held { ⌜ «is-held» (view K·Kind (now self)) r ≡ true ⌝ }
-        ensures answer { λ a. ⌜ leaving (numbered a) (view K·Kind (now (self .exit))) ≡ «hold-more» (view K·Kind (now (self .entry))) r ⌝ }
+        requires used { ⌜ Used (view K·Kind (now self)) r ⌝ }
+        ensures answer { λ a. ⌜ leaving (numbered a) (view K·Kind (now (self .exit))) ≡ «hold-more» (view K·Kind (now (self .entry))) r answer ⌝ }
         ensures lawful { λ _. ⌜ LawfulStore K·Kind (now (self .exit)) ⌝ }
         ensures untouched { λ a. ⌜ (isErr a ≡ true → Same (now (self .entry)) (now (self .exit))) ⌝ }
     {
@@ -68,6 +70,6 @@ impl<'a, K: Kind> Store<'a, K> {
             return Err(Refusal::TooManyHolds);
         }
         self.set_head(r, held_more(raised(head)));
-        Ok(head.holds as usize + 1)
+        Ok(answer)
     }
 }

@@ -20,7 +20,7 @@ impl<'a, K: Kind> Store<'a, K> {
         if b >= K::numbers().bytes {
             return Err(Refusal::NoSuchField);
         }
-        Ok(self.byte_of(r, b))
+        Ok(self.record(r).byte(b))
     }
 
     // How many records are in use. It alters nothing.

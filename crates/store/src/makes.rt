@@ -47,6 +47,7 @@ impl<'a, K: Kind> Store<'a, K> {
                 n: 0,
                 listed: 0,
                 front: 0,
+                given: 0,
             };
         }
         blank_records(records);
@@ -60,6 +61,7 @@ impl<'a, K: Kind> Store<'a, K> {
             n,
             listed: 0,
             front: 1,
+            given: 0,
         }
     }
 }

@@ -3,7 +3,7 @@ ghost use mathlib.Core.Bool.{true};
 ghost use mathlib.Core.Path.{_≡_};
 ghost use Rattle.model.specs.Calls.{answered};
 ghost use Rattle.model.specs.History.{«Goes-on»};
-ghost use Rattle.store.specs.Replies.{numbered as numberedReply, granted as grantedReply, leaving, «is-refusal»};
+ghost use Rattle.store.specs.Replies.{numbered as numberedReply, loaded as loadedReply, granted as grantedReply, leaving, «is-refusal»};
 ghost use Rattle.store.specs.View.{view, LawfulStore, Same};
 use crate::table::Store;
 use kinds::kind::Kind;
@@ -16,6 +16,16 @@ fn numbered(result: Result<usize, Refusal>) -> Reply
 {
     match result {
         Ok(n) => Reply::Number(n),
+        Err(e) => Reply::Refused(e),
+    }
+}
+
+fn loaded(result: Result<Option<usize>, Refusal>) -> Reply
+    ensures value { λ r. ⌜ r ≡ loadedReply result ⌝ }
+{
+    match result {
+        Ok(Some(n)) => Reply::Number(n),
+        Ok(None) => Reply::Nothing,
         Err(e) => Reply::Refused(e),
     }
 }
@@ -41,11 +51,14 @@ impl<'a, K: Kind> Store<'a, K> {
         match call {
             Call::Make => numbered(self.make()),
             Call::Hold(r) => numbered(self.hold(r)),
+            Call::Load(r, l) => loaded(self.load(r, l)),
+            Call::Link(r, l, t) => numbered(self.link(r, l, t)),
             Call::Byte(r, b, v) => granted(self.write_byte(r, b, v)),
             Call::Look(r, b) => match self.look(r, b) {
                 Ok(v) => Reply::Number(v as usize),
                 Err(e) => Reply::Refused(e),
             },
+            Call::Drop(r) => numbered(self.drop_hold(r)),
             Call::Tally => Reply::Number(self.tally()),
         }
     }

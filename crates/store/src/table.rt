@@ -15,4 +15,6 @@ pub struct Store<'a, K> {
     pub(crate) listed: usize,
     // the first free record; 0 where there is none
     pub(crate) front: usize,
+    // how many records the call under way has given up
+    pub(crate) given: usize,
 }

@@ -14,8 +14,11 @@ fn print_call(rt: &impl Print, call: Call) -> io::Result<()> {
     match call {
         Call::Make => print!(rt, "make"),
         Call::Hold(r) => print!(rt, "hold {r}"),
+        Call::Load(r, l) => print!(rt, "load {r} {l}"),
+        Call::Link(r, l, t) => print!(rt, "link {r} {l} {t}"),
         Call::Byte(r, b, v) => print!(rt, "byte {r} {b} {v}"),
         Call::Look(r, b) => print!(rt, "look {r} {b}"),
+        Call::Drop(r) => print!(rt, "drop {r}"),
         Call::Tally => print!(rt, "tally"),
     }
 }
@@ -23,6 +26,7 @@ fn print_call(rt: &impl Print, call: Call) -> io::Result<()> {
 fn print_reply(rt: &impl Print, reply: Reply) -> io::Result<()> {
     match reply {
         Reply::Number(n) => println!(rt, " -> {n}"),
+        Reply::Nothing => println!(rt, " -> none"),
         Reply::Done => println!(rt, " -> done"),
         Reply::Refused(why) => {
             let number = why.number();
@@ -39,9 +43,10 @@ fn print_all(rt: &impl Print, calls: &[Call], replies: &[Reply]) -> io::Result<(
     Ok(())
 }
 
-// Makes until no record of three is free, holds, marks and reads.
-fn session<K: Kind>(rt: &impl Print, records: &mut [K]) -> io::Result<()> {
-    let calls = [
+// Makes until no record of three is free, holds, marks and reads; then ties records to each other
+// and to themselves, and lets go until some are given up and one stays spent.
+fn calls() -> [Call; 29] {
+    [
         Call::Tally,
         Call::Make,
         Call::Make,
@@ -55,8 +60,29 @@ fn session<K: Kind>(rt: &impl Print, records: &mut [K]) -> io::Result<()> {
         Call::Byte(1, 99, 7),
         Call::Look(0, 99),
         Call::Tally,
-    ];
-    let mut replies = [Reply::Done; 13];
+        Call::Load(1, 0),
+        Call::Link(1, 0, 2),
+        Call::Link(2, 1, 2),
+        Call::Link(2, 9, 4),
+        Call::Link(2, 9, 0),
+        Call::Drop(2),
+        Call::Drop(2),
+        Call::Drop(2),
+        Call::Load(1, 0),
+        Call::Link(1, 0, 0),
+        Call::Link(2, 1, 0),
+        Call::Drop(2),
+        Call::Drop(1),
+        Call::Tally,
+        Call::Make,
+        Call::Make,
+    ]
+}
+
+// Plays the calls over three records of the kind and prints each with its reply.
+fn session<K: Kind>(rt: &impl Print, records: &mut [K]) -> io::Result<()> {
+    let calls = calls();
+    let mut replies = [Reply::Done; 29];
     let mut heads = [Head::free(0); 3];
     let mut list = [0u16; 3];
     let mut work = [0u32; 6];

@@ -13,7 +13,7 @@ use store::plays::play;
 fn code(reply: Reply) -> usize {
     match reply {
         Reply::Number(n) => n,
-        Reply::Done => 0,
+        Reply::Nothing | Reply::Done => 0,
         Reply::Refused(why) => 100000 + why.number() as usize,
     }
 }

@@ -73,6 +73,16 @@ fn numbered(words: &[u8], n: usize) -> Answer
     line
 }
 
+// A line of a text, with its line feed.
+fn text(line: &[u8]) -> Answer
+    requires { ⌜ length (now line) ≤ 8 ⌝ }
+    ensures value { λ r. ⌜ «line-of» r ≡ now (line .entry) ⌝ }
+{
+    let mut answer = Answer::new();
+    answer.push_text(line);
+    answer
+}
+
 // The answer line of a reply.
 pub fn answer(reply: Reply) -> Answer
     ensures value { λ r. ⌜ «line-of» r ≡ «answer-line» reply ⌝ }
@@ -80,11 +90,8 @@ pub fn answer(reply: Reply) -> Answer
 {
     match reply {
         Reply::Number(n) => numbered(b"ok ", n),
-        Reply::Done => {
-            let mut line = Answer::new();
-            line.push_text(b"ok\n");
-            line
-        }
+        Reply::Nothing => text(b"ok none\n"),
+        Reply::Done => text(b"ok\n"),
         Reply::Refused(why) => numbered(b"refused ", why.number() as usize),
     }
 }

@@ -10,5 +10,5 @@ returns c =
     record {
       decimals = λ w n. (decimal-from-numeral w n, λ h. numeral-from-decimal w n (h .0) (h .1));
       suffices = record { next = kept-next; means = kept-means };
-      answers = (refl, (refl, (refl, (refl, (refl, (refl, tt))))));
+      answers = (refl, (refl, (refl, (refl, (refl, (refl, (refl, tt)))))));
     }

@@ -7,3 +7,6 @@ returns-in-Number c = search (needs, tells)
 
 pub returns-in-Refused : need.returns-in-Refused
 returns-in-Refused c = search (needs, tells)
+
+pub returns-in-Nothing : need.returns-in-Nothing
+returns-in-Nothing c = search (needs, tells)

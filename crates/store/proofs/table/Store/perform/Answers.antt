@@ -6,7 +6,7 @@ use Rattle.model.specs.declared.calls.Reply.the-variants.{Number, Refused}
 use Rattle.model.proofs.Histories.{goes-on}
 use Rattle.store.specs.Replies.{leaving}
 use Rattle.store.specs.View.{view}
-use Rattle.store.proofs.Views.{numbered-refusal, granted-refusal, same-store}
+use Rattle.store.proofs.Views.{numbered-refusal, loaded-refusal, granted-refusal, same-store}
 use Rattle.store.proofs.table.Store.perform.Needs as need
 
 pub returns-in-Make : need.returns-in-Make
@@ -88,4 +88,49 @@ returns-in-Tally g c =
       lawful = c .pre .lawful;
       untouched = λ e. same-store (c .args .self .now);
       history = goes-on k v (c .args .call) (Number (c .tally .result)) v answer;
+    }
+
+pub returns-in-Load : need.returns-in-Load
+returns-in-Load g c =
+    let k = g .K·Kind .shape in
+    let v = view (g .K·Kind) (c .args .self .now) in
+    let z = view (g .K·Kind) (c .load .last .self) in
+    let said = c .loaded .ensures .value in
+    let answer =
+    ap (λ r. leaving r z) said ∙ c .load .ensures .answer ∙ ap (answered k v) (sym (c .in-Load .is)) in
+    record {
+      answer = answer;
+      lawful = c .load .ensures .lawful;
+      untouched = λ e. c .load .ensures .untouched (loaded-refusal (c .load .result) _ said e);
+      history = goes-on k v (c .args .call) (c .loaded .result) z answer;
+    }
+
+pub returns-in-Link : need.returns-in-Link
+returns-in-Link g c =
+    let k = g .K·Kind .shape in
+    let v = view (g .K·Kind) (c .args .self .now) in
+    let z = view (g .K·Kind) (c .link .last .self) in
+    let said = c .numbered-in-Link .ensures .value in
+    let answer =
+    ap (λ r. leaving r z) said ∙ c .link .ensures .answer ∙ ap (answered k v) (sym (c .in-Link .is)) in
+    record {
+      answer = answer;
+      lawful = c .link .ensures .lawful;
+      untouched = λ e. c .link .ensures .untouched (numbered-refusal (c .link .result) _ said e);
+      history = goes-on k v (c .args .call) (c .numbered-in-Link .result) z answer;
+    }
+
+pub returns-in-Drop : need.returns-in-Drop
+returns-in-Drop g c =
+    let k = g .K·Kind .shape in
+    let v = view (g .K·Kind) (c .args .self .now) in
+    let z = view (g .K·Kind) (c .drop-hold .last .self) in
+    let said = c .numbered-in-Drop .ensures .value in
+    let answer =
+    ap (λ r. leaving r z) said ∙ c .drop-hold .ensures .answer ∙ ap (answered k v) (sym (c .in-Drop .is)) in
+    record {
+      answer = answer;
+      lawful = c .drop-hold .ensures .lawful;
+      untouched = λ e. c .drop-hold .ensures .untouched (numbered-refusal (c .drop-hold .result) _ said e);
+      history = goes-on k v (c .args .call) (c .numbered-in-Drop .result) z answer;
     }

@@ -1,7 +1,9 @@
 use mathlib.Core.Path.{_≡_, sym, ap, _∙_}
+use Rattle.std.proofs.shelf.Tests.{lt-ltb}
 use Rattle.model.specs.declared.calls.Call.the-variants.{Byte}
 use Rattle.model.specs.declared.calls.Reply.the-variants.{Done}
-use Rattle.model.proofs.Accepted.{byte-accepted}
+use Rattle.model.specs.Calls.{byte-answer}
+use Rattle.model.proofs.Accepted.{asked-yes}
 use Rattle.store.specs.Replies.{leaving}
 use Rattle.store.specs.View.{view}
 use Rattle.store.proofs.Views.{held-stands, lawful-leaving}
@@ -19,9 +21,8 @@ returns g c =
     let s = c .args .self .now in
     let v = view (g .K·Kind) s in
     let answer =
-    ap (leaving Done) (c .set-byte-of .ensures .after)
-    ∙ sym (byte-accepted (g .K·Kind .shape) v (c .args .r) (c .args .b) _ (c .pre .held)
-    (c .pre .field)) in
+    ap (λ y. leaving Done (y .store)) (c .set-byte-of .ensures .after)
+    ∙ sym (asked-yes v (λ _. byte-answer v (c .args .r) (c .args .b) (c .args .v)) _ _ (c .pre .held) (lt-ltb (c .args .b) (g .K·Kind .shape .bytes) (c .pre .field))) in
     record {
       after = answer;
       lawful =

@@ -3,7 +3,8 @@ use native.Mathlib.Omega.{arith}
 use Rattle.model.specs.State.{State, head, with-head, with-front, made-header}
 use Rattle.model.specs.declared.calls.Call.the-variants.{Make}
 use Rattle.model.specs.Lawful.{Lawful}
-use Rattle.model.proofs.LawfulCalls.{front-free, lawful-answered}
+use Rattle.model.proofs.LawfulAnswers.{lawful-answered}
+use Rattle.model.proofs.LawfulCalls.{front-free}
 use Rattle.model.proofs.Accepted.{make-accepted}
 use Rattle.store.specs.View.{view}
 use Rattle.store.proofs.Views.{size-is}
@@ -29,7 +30,7 @@ returns g c =
     let f = v .front in
     let after =
     ap (λ x. with-front x (c .head-next .result .next))
-    (c .set-head .ensures .after ∙ ap (with-head v f) (c .made .ensures .value))
+    (ap (λ g. g .store) (c .set-head .ensures .after) ∙ ap (with-head v f) (c .made .ensures .value))
     ∙ ap (with-front (with-head v f made-header)) (ap (λ h. h .next) (c .head-next .ensures .value)) in
     let room = c .set-head .ensures .room in
     record {
