@@ -7,10 +7,12 @@ pub mod NewStore
 pub mod Ledgers
 pub mod Releases
 pub mod Walks
+pub mod Entries
 pub mod Lowering
 pub mod Owing
 pub mod LawfulAnswers
 pub mod Unharmed
+pub mod Opening
 pub mod Accepted
 pub mod Histories
 pub mod Listing

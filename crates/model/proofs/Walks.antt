@@ -229,7 +229,7 @@ module _ (p : ℕ) (R : Rule) (I : Progress → List Task → Type 0) (room : Pr
       rw (runs-link (link R d) g u [] ne, runs-none (link R d) (link R d g u)) (walked-on (turned-walked a) b))
       (cases-eq u 0)
 
-  runs-keeps :
+  pub runs-keeps :
       (d : ℕ) →
       ((g : Progress) (t : ℕ) (Q : List Task) → room g (visit t ∷ Q) < d → I g (visit t ∷ Q) →
       Walked I room g (visit t ∷ Q) (walk R d g t) Q) →

@@ -4,5 +4,6 @@ pub mod Calls
 pub mod Lawful
 pub mod History
 pub mod Walk
+pub mod Entering
 pub mod Release
 pub mod Releasing

@@ -108,6 +108,16 @@ visited-ended s (leave u ∷ Q) = 0
 abbrev pub counted-room : Progress → List Task → ℕ
 counted-room g Q = countBy (λ h. not (eqb (h .count) 0)) (g .store .heads) + visited-ended (g .store) Q
 
+-- how often record r can still be entered: once if it has a count or is visited with none left
+abbrev pub visited-next : ℕ → List Task → ℕ
+visited-next r [] = 0
+visited-next r (follow u ∷ Q) = 0
+visited-next r (visit u ∷ Q) = once (eqb u r)
+visited-next r (leave u ∷ Q) = 0
+
+abbrev pub counted-open : Progress → List Task → ℕ → ℕ
+counted-open g Q r = cond (eqb (head (g .store) r .count) 0) (visited-next r Q) 1
+
 -- what is in use and what is given up are no more than the records that there can be
 abbrev pub Few-given : Progress → Type 0
 Few-given g = in-use (g .store) + g .given ≤ 4095

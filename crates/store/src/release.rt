@@ -4,7 +4,7 @@ ghost use mathlib.Core.Bool.{false};
 ghost use mathlib.Core.List.{[], _∷_, _++_};
 ghost use mathlib.Core.Path.{_≡_};
 ghost use Rattle.model.specs.Release.{moved, suspect as suspectOf, released as releasedOf, releasing, «is-purple» as isPurple};
-ghost use Rattle.model.specs.Releasing.{Releasing, «Few-given», «counted-room»};
+ghost use Rattle.model.specs.Releasing.{Releasing, «Few-given», «counted-room», «counted-open»};
 ghost use Rattle.model.specs.State.{head, «with-candidates»};
 ghost use Rattle.store.specs.View.{view, progress, Roomy};
 use crate::changes::blackened;
@@ -91,6 +91,8 @@ pub impl<'a, K: Kind> Walk<Store<'a, K>> for Release as ReleaseWalk {
     ghost fits = { λ g Q. Releasing (K·Kind .shape) g Q × «Few-given» g };
 
     ghost room = { «counted-room» };
+
+    ghost left = { «counted-open» };
 
     ghost spare = { λ _. 0 };
 

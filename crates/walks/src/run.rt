@@ -4,6 +4,7 @@ ghost use mathlib.Core.Bool.{true};
 ghost use mathlib.Core.List.{[], _∷_};
 ghost use Prim.Native.Nat.{_+_, _<_, _≤_};
 ghost use lib.ListN.{length, take};
+ghost use Rattle.model.specs.Entering.{Laws, Opens};
 ghost use Rattle.model.specs.Walk.{Keeps, Ready, full};
 ghost use Rattle.model.specs.Walk.Task.{visit as toVisit};
 ghost use Rattle.walks.specs.Begun.{Begun};
@@ -32,9 +33,11 @@ fn begin<S: Stacked, W: Walk<S>>(store: &mut S, t: usize, top: usize) -> usize
 pub fn walk<S: Stacked, W: Walk<S>>(store: &mut S, root: usize, base: usize)
     requires lawful { ⌜ S·Stacked .sound (now store) × W·Walk .fits (S·Stacked .progress (now store)) (toVisit root ∷ []) ⌝ }
     requires keeps { ⌜ Keeps (S·Stacked .width) (W·Walk .rule) (W·Walk .fits) (W·Walk .room) ⌝ }
+    requires opens { ⌜ Opens (W·Walk .rule) (W·Walk .fits) (W·Walk .left) ⌝ }
     requires few { ⌜ length (S·Stacked .progress (now store) .store .rows) ≤ 4095 ⌝ }
     requires stack { ⌜ base + (length (S·Stacked .progress (now store) .store .rows) + W·Walk .spare (length (S·Stacked .progress (now store) .store .rows))) ≤ length (S·Stacked .stack (now store)) ⌝ }
     ensures meaning { λ _. ⌜ S·Stacked .progress (now (store .exit)) ≡ full (W·Walk .rule) (S·Stacked .progress (now (store .entry))) root ⌝ }
+    ensures laws { λ _. ⌜ Laws (W·Walk .rule) (S·Stacked .progress (now (store .entry))) root ⌝ }
     ensures lawful { λ _. ⌜ S·Stacked .sound (now (store .exit)) × W·Walk .fits (S·Stacked .progress (now (store .exit))) [] ⌝ }
     ensures wide { λ _. ⌜ length (S·Stacked .stack (now (store .exit))) ≡ length (S·Stacked .stack (now (store .entry))) ⌝ }
     ensures below { λ _. ⌜ take base (S·Stacked .stack (now (store .exit))) ≡ take base (S·Stacked .stack (now (store .entry))) ⌝ }

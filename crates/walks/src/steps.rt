@@ -19,6 +19,9 @@ pub trait Walk<S: Stacked> {
     // A bound on the records that can still be entered.
     ghost room: { Progress → List Task → ℕ };
 
+    // How often a record can still be entered: once, or not at all.
+    ghost left: { Progress → List Task → ℕ → ℕ };
+
     // The stack that the steps themselves need, where there are so many records.
     ghost spare: { ℕ → ℕ };
 

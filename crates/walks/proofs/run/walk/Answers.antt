@@ -4,6 +4,7 @@ use mathlib.Core.List.{[]}
 use native.Mathlib.Omega.{arith}
 use lib.ListN.{length}
 use borrow.Author.Needs.{needs}
+use Rattle.model.proofs.Entries.{walk-laws}
 use Rattle.walks.proofs.Loops.{at-top, end, first, follow-ready, followed, free, inside, leave-ready, low, named, onward, onward-end, turn-begun, turn-empty, turn-leave, advance, visit-ready, visit-small}
 use Rattle.walks.proofs.run.walk.Needs as need
 
@@ -128,6 +129,7 @@ returns g c =
     let z = end a (c .loop-top-test .left) in
     record {
       meaning = z .0 ∙ onward-end (turn-begun (c .pre .keeps) f b .0);
+      laws = walk-laws _ _ _ _ (c .pre .keeps) _ (c .pre .opens) _ _ (c .pre .lawful .1);
       lawful = (c .loop-top .inv .1, z .1);
       wide = a .bounds .wide ∙ b .wide;
       below = a .bounds .below ∙ b .below;

@@ -7,6 +7,7 @@ use Rattle.model.specs.Releasing.{Releasing, Few-given}
 use Rattle.model.specs.Walk.{full}
 use Rattle.model.specs.Walk.Task.{visit}
 use Rattle.model.proofs.Lowering.{lower-walked}
+use Rattle.model.proofs.Opening.{release-opens}
 use Rattle.model.proofs.Unharmed.{release-keeps-few}
 use Rattle.store.specs.View.{view, progress}
 use Rattle.store.proofs.Views.{size-is}
@@ -25,6 +26,7 @@ walk-requires g c κs =
     record {
       lawful = (e .lawful, fits);
       keeps = release-keeps-few k;
+      opens = release-opens k;
       few = fits .0 .few;
       stack = omega (arith, n, e .lawful .work-room);
     }
