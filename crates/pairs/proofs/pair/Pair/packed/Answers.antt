@@ -1,10 +1,7 @@
 -- The parts of the number do not overlap, so that it is their sum.
 use Rattle.std.proofs.Common.{rules}
-use Rattle.pairs.proofs.Packing.{packing_sum, packing_read}
+use Rattle.pairs.proofs.Packing.{packing_read}
 use Rattle.pairs.proofs.pair.Pair.packed.Goals as goal
-
-pub invariant-of-result : goal.invariant-of-result
-invariant-of-result c = search (rules, packing_sum)
 
 pub returns : goal.returns
 returns c = search (rules, packing_read)

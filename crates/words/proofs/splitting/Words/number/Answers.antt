@@ -6,6 +6,6 @@ use Rattle.words.proofs.splitting.Words.number.Goals as goal
 -- a command word is no numeral
 pub returns-in-Command : goal.returns-in-Command
 returns-in-Command c =
-    let word = c.in-ok-digits.field-0 in
-    let e = c.in-ok-digits.ensures in
+    let word = c.in_ok-digits.field-0 in
+    let e = c.in_ok-digits.ensures in
     record { value = rw e.value (sym (no_numeral (text_of word) (sym e.kind ∙ ap is_digits c.in-Command.is))); after = rw e.value }
