@@ -22,13 +22,13 @@ lower-requires g c =
     let S = g.S.Stacked in
     let v = state S c.args.store.now in
     let r = c.args.r in
-    let begun : S.progress c.write-head.new.self ≡ started (with_head v r (held_less (head v r))) =
-    c.write-head.ensures.after ∙ ap (λ y. turn y r (header c.held_less.result)) c.start.ensures.after
+    let begun : S.progress c.write_head.new.self ≡ started (with_head v r (held_less (head v r))) =
+    c.write_head.ensures.after ∙ ap (λ y. turn y r (header c.held_less.result)) c.start.ensures.after
     ∙ ap (turn (started v) r)
-    (c.held_less.ensures.value ∙ ap held_less (c.read-head-head.ensures.value ∙ ap (λ y. head y.store r) c.start.ensures.after)) in
+    (c.held_less.ensures.value ∙ ap held_less (c.read_head-head.ensures.value ∙ ap (λ y. head y.store r) c.start.ensures.after)) in
     let owing = owing_drop k v r c.requires.lawful.keeping.rules (held_from_test v r c.requires.held) in
     record {
-      lawful = c.write-head.ensures.lawful;
+      lawful = c.write_head.ensures.lawful;
       owing = subst (λ y. Releasing k y (follow r ∷ [])) (sym begun) owing;
       few = subst FewGiven (sym begun) (few_start k (with_head v r (held_less (head v r))) (follow r ∷ []) owing);
       narrow = c.requires.lawful.keeping.narrow;
@@ -37,7 +37,7 @@ lower-requires g c =
             arith,
             c.requires.lawful.keeping.work_room,
             ap (λ y. length y.store.rows) begun,
-            ap length c.write-head.ensures.kept,
+            ap length c.write_head.ensures.kept,
             ap length c.start.ensures.kept,
           );
     }
@@ -48,10 +48,10 @@ returns g c =
     let S = g.S.Stacked in
     let v = state S c.args.store.now in
     let r = c.args.r in
-    let begun : S.progress c.write-head.new.self ≡ started (with_head v r (held_less (head v r))) =
-    c.write-head.ensures.after ∙ ap (λ y. turn y r (header c.held_less.result)) c.start.ensures.after
+    let begun : S.progress c.write_head.new.self ≡ started (with_head v r (held_less (head v r))) =
+    c.write_head.ensures.after ∙ ap (λ y. turn y r (header c.held_less.result)) c.start.ensures.after
     ∙ ap (turn (started v) r)
-    (c.held_less.ensures.value ∙ ap held_less (c.read-head-head.ensures.value ∙ ap (λ y. head y.store r) c.start.ensures.after)) in
+    (c.held_less.ensures.value ∙ ap held_less (c.read_head-head.ensures.value ∙ ap (λ y. head y.store r) c.start.ensures.after)) in
     let owing = owing_drop k v r c.requires.lawful.keeping.rules (held_from_test v r c.requires.held) in
     let after = c.lower.ensures.after ∙ ap (λ y. lower k y r) begun in
     record {
@@ -64,6 +64,6 @@ returns g c =
             keeping_on k S.width v (state S c.lower.new.store) _ _ c.requires.lawful.keeping
             (subst (λ y. Lawful k y.store) (sym after) (lawful_lower k (started (with_head v r (held_less (head v r)))) r owing))
             (ap (λ y. length y.store.rows) after ∙ lower_size k (started (with_head v r (held_less (head v r)))) r owing)
-            (c.lower.ensures.wide ∙ ap length c.write-head.ensures.kept ∙ ap length c.start.ensures.kept);
+            (c.lower.ensures.wide ∙ ap length c.write_head.ensures.kept ∙ ap length c.start.ensures.kept);
       };
     }

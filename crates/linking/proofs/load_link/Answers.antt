@@ -4,8 +4,8 @@ use Rattle.model.proofs.LawfulCalls.{held_from_test}
 use Rattle.steps.specs.Keeping.{state}
 use Rattle.linking.proofs.load_link.Goals as goal
 
-pub add-hold-requires : goal.add-hold-requires
-add-hold-requires g c =
+pub add_hold-requires : goal.add_hold-requires
+add_hold-requires g c =
     let v = state g.S.Stacked c.args.store.now in
     let h = held_from_test v c.args.r c.requires.held in
     let t = c.link-t.result in

@@ -56,8 +56,8 @@ lower-requires g c =
     let r = c.args.r in
     let l = c.args.l in
     let t = c.args.t in
-    let begun : S.progress c.write-link.new.self ≡ started (relinked (raised_at v t) r l t) =
-    c.write-link.ensures.after
+    let begun : S.progress c.write_link.new.self ≡ started (relinked (raised_at v t) r l t) =
+    c.write_link.ensures.after
     ∙ ap (λ y. moved y (with_row y.store r (with_link (row y.store r) l t)))
     (c.raise.ensures.after ∙ ap (λ y. moved y (raised_at y.store t)) c.start.ensures.after) in
     let old : c.link-old.result ≡ get_or (row v r).links l 0 =
@@ -65,7 +65,7 @@ lower-requires g c =
     let p = target_from_test v r t c.requires.held in
     let owing = owing_relinked k v r l t c.requires.lawful.keeping.rules p.0 p.1 c.requires.field in
     record {
-      lawful = c.write-link.ensures.lawful;
+      lawful = c.write_link.ensures.lawful;
       owing = subst (λ y. Releasing k y (follow c.link-old.result ∷ [])) (sym begun)
           (subst (λ u. Releasing k (started (relinked (raised_at v t) r l t)) (follow u ∷ [])) (sym old) owing);
       few = subst FewGiven (sym begun) (few_start k (relinked (raised_at v t) r l t) (follow (get_or (row v r).links l 0) ∷ []) owing);
@@ -76,7 +76,7 @@ lower-requires g c =
             c.requires.lawful.keeping.work_room,
             ap (λ y. length y.store.rows) begun,
             relinked_size v r l t,
-            ap length c.write-link.ensures.kept,
+            ap length c.write_link.ensures.kept,
             ap length c.raise.ensures.kept,
             ap length c.start.ensures.kept,
           );
@@ -90,8 +90,8 @@ returns g c =
     let r = c.args.r in
     let l = c.args.l in
     let t = c.args.t in
-    let begun : S.progress c.write-link.new.self ≡ started (relinked (raised_at v t) r l t) =
-    c.write-link.ensures.after
+    let begun : S.progress c.write_link.new.self ≡ started (relinked (raised_at v t) r l t) =
+    c.write_link.ensures.after
     ∙ ap (λ y. moved y (with_row y.store r (with_link (row y.store r) l t)))
     (c.raise.ensures.after ∙ ap (λ y. moved y (raised_at y.store t)) c.start.ensures.after) in
     let old : c.link-old.result ≡ get_or (row v r).links l 0 =
@@ -111,6 +111,6 @@ returns g c =
             (subst (λ y. Lawful k y.store) (sym after) (lawful_lower k (started (relinked (raised_at v t) r l t)) (get_or (row v r).links l 0) owing))
             (ap (λ y. length y.store.rows) after
             ∙ lower_size k (started (relinked (raised_at v t) r l t)) (get_or (row v r).links l 0) owing ∙ relinked_size v r l t)
-            (c.lower.ensures.wide ∙ ap length (c.write-link.ensures.kept ∙ c.raise.ensures.kept ∙ c.start.ensures.kept));
+            (c.lower.ensures.wide ∙ ap length (c.write_link.ensures.kept ∙ c.raise.ensures.kept ∙ c.start.ensures.kept));
       };
     }

@@ -14,19 +14,19 @@ pub returns : goal.returns
 returns g c =
     let k = g.S.Records.shape in
     let v = state g.S.Stacked c.args.store.now in
-    let z = state g.S.Stacked c.put-byte.new.self in
+    let z = state g.S.Stacked c.put_byte.new.self in
     let r = c.args.r in
     let b = c.args.b in
-    let after = c.put-byte.ensures.after in
+    let after = c.put_byte.ensures.after in
     let answer =
     ap (λ y. leaving Done y.store) after
     ∙ sym (asked_yes v (λ _. byte_answer v r b c.args.v) _ _ c.requires.held (lt-ltb b k.bytes c.requires.field)) in
     record {
       after = answer;
       lawful = record {
-        sound = c.put-byte.ensures.lawful;
+        sound = c.put_byte.ensures.lawful;
         keeping =
             keeping_answered k g.S.Stacked.width v z _ _ (Byte r b c.args.v) Done c.requires.lawful.keeping answer
-            (ap (λ y. length y.store.rows) after ∙ length-set v.rows (r - 1) _) (ap length c.put-byte.ensures.kept);
+            (ap (λ y. length y.store.rows) after ∙ length-set v.rows (r - 1) _) (ap length c.put_byte.ensures.kept);
       };
     }

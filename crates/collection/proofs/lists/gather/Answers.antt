@@ -10,7 +10,7 @@ pub loop-i-init : goal.loop-i-init
 loop-i-init g c =
     let k = g.S.Records.shape in
     let all = c.listed-left.ensures in
-    let e = c.take-list.ensures in (
+    let e = c.take_list.ensures in (
       turn_first (gather_one k) (Gatherings k) c.listed-left.result _ _
           (omega (arith, listed_long c.listed-left.result _ _ all.value all.table, ap length e.aside)),
       (refl, e.lawful),
@@ -24,14 +24,14 @@ candidate-next-requires g c =
       inside = omega (arith, turn_inside (gather_one k) (Gatherings k) _ _ _ _ _ _ c.loop-i.invariant.0 c.loop-i-test.true);
     }
 
-pub gather-one-requires : goal.gather-one-requires
-gather-one-requires g c =
+pub gather_one-requires : goal.gather_one-requires
+gather_one-requires g c =
     let k = g.S.Records.shape in
     let S = g.S.Stacked in
     let start = S.progress c.args.store.now in
     let y = S.progress c.loop-i.store in
     let m = c.requires.scanned in
-    let e = c.take-list.ensures in
+    let e = c.take_list.ensures in
     let begun = gather_begun k start _ c.listed-left.result _ _ c.listed-left.ensures.table e.aside m.0 e.after m.1.0 m.1.1.0 m.1.1.1 in
     let L = turn_ready (gather_one k) (Gatherings k) _ _ _ _ y _ c.loop-i.invariant.0 c.loop-i-test.true _ c.candidate-next.ensures.value (m.0, start) begun in
     record {
@@ -58,12 +58,12 @@ returns g c =
     let k = g.S.Records.shape in
     let S = g.S.Stacked in
     let start = S.progress c.args.store.now in
-    let e = c.take-list.ensures in
+    let e = c.take_list.ensures in
     let n = c.listed-left.result in
     let all : c.loop-i.i ≡ n = omega (arith, c.loop-i-test.false, c.loop-i.auto.i-end) in
     let meaning : S.progress c.loop-i.store ≡ gathered k start =
     turn_all (gather_one k) (Gatherings k) n _ _ _ _ _ c.loop-i.invariant.0 all
-    ∙ ap (λ y. fold (gather_one k) y (take n (S.table c.take-list.new.self))) e.after
+    ∙ ap (λ y. fold (gather_one k) y (take n (S.table c.take_list.new.self))) e.after
     ∙ ap (λ t. fold (gather_one k) (list_taken start) (take n t)) e.aside
     ∙ ap (fold (gather_one k) (list_taken start)) (sym c.listed-left.ensures.table) in
     record {

@@ -14,13 +14,13 @@ walk-requires g c =
     let k = g.S.Records.shape in
     let y = g.S.Stacked.progress c.args.store.now in
     let r = c.args.r in
-    let e : g.S.Stacked.progress c.write-head.new.self ≡ turn y r (unlisted (at y r)) =
-    c.write-head.ensures.after ∙ ap (turn y r) (c.unlisted.ensures.value ∙ ap unlisted c.read-head-head.ensures.value) in
+    let e : g.S.Stacked.progress c.write_head.new.self ≡ turn y r (unlisted (at y r)) =
+    c.write_head.ensures.after ∙ ap (turn y r) (c.unlisted.ensures.value ∙ ap unlisted c.read_head-head.ensures.value) in
     let I = c.requires.serving in
     record {
-      lawful = (c.write-head.ensures.lawful, subst (λ z. Gathering k z (visit r ∷ []) × FewGiven z) (sym e) (I.walks, I.few_given));
+      lawful = (c.write_head.ensures.lawful, subst (λ z. Gathering k z (visit r ∷ []) × FewGiven z) (sym e) (I.walks, I.few_given));
       keeps = subst (λ p. Keeps p (gathering k) (λ z Q. Gathering k z Q × FewGiven z) (open_room white)) (sym c.requires.narrow.0) (gathering_keeps k);
       opens = gathering_opens k;
       few = omega (arith, ap (λ z. length z.store.rows) e, I.walks.sized.few);
-      stack = omega (arith, ap (λ z. length z.store.rows) e, ap length c.write-head.ensures.kept, c.requires.stack);
+      stack = omega (arith, ap (λ z. length z.store.rows) e, ap length c.write_head.ensures.kept, c.requires.stack);
     }

@@ -11,7 +11,7 @@ loop-i-init g c =
     let k = g.S.Records.shape in
     let S = g.S.Stacked in
     let all = c.listed-n.ensures in
-    let e = c.take-list.ensures in (
+    let e = c.take_list.ensures in (
       turn_first (mark_one k) (MarkList k) c.listed-n.result _ _
           (omega (arith, listed_long c.listed-n.result _ _ all.value all.table, ap length e.aside)),
       (omega (arith, ap (λ z. length z.store.candidates) e.after), (refl, e.lawful)),
@@ -25,13 +25,13 @@ candidate-r-requires g c =
       inside = omega (arith, turn_inside (mark_one k) (MarkList k) _ _ _ _ _ _ c.loop-i.invariant.0 c.loop-i-test.true);
     }
 
-pub mark-one-requires : goal.mark-one-requires
-mark-one-requires g c =
+pub mark_one-requires : goal.mark_one-requires
+mark_one-requires g c =
     let k = g.S.Records.shape in
     let S = g.S.Stacked in
     let start = S.progress c.args.store.now in
     let y = S.progress c.loop-i.store in
-    let e = c.take-list.ensures in
+    let e = c.take_list.ensures in
     let begun = mark_begun k start _ c.listed-n.result _ _ c.listed-n.ensures.table e.aside e.after c.requires.lawful.1 in
     let M = turn_ready (mark_one k) (MarkList k) _ _ _ _ y _ c.loop-i.invariant.0 c.loop-i-test.true _ c.candidate-r.ensures.value start begun in
     record {
@@ -59,12 +59,12 @@ returns g c =
     let k = g.S.Records.shape in
     let S = g.S.Stacked in
     let start = S.progress c.args.store.now in
-    let e = c.take-list.ensures in
+    let e = c.take_list.ensures in
     let n = c.listed-n.result in
     let all : c.loop-i.i ≡ n = omega (arith, c.loop-i-test.false, c.loop-i.auto.i-end) in
     let meaning : S.progress c.loop-i.store ≡ marked k start =
     turn_all (mark_one k) (MarkList k) n _ _ _ _ _ c.loop-i.invariant.0 all
-    ∙ ap (λ y. fold (mark_one k) y (take n (S.table c.take-list.new.self))) e.after
+    ∙ ap (λ y. fold (mark_one k) y (take n (S.table c.take_list.new.self))) e.after
     ∙ ap (λ t. fold (mark_one k) (list_taken start) (take n t)) e.aside
     ∙ ap (fold (mark_one k) (list_taken start)) (sym c.listed-n.ensures.table) in
     record {

@@ -42,8 +42,8 @@ push-requires g c =
           );
     }
 
-pub returns-then-is-purple : goal.returns-then-is-purple
-returns-then-is-purple g c =
+pub returns-then-is_purple : goal.returns-then-is_purple
+returns-then-is_purple g c =
     let k = g.S.Records.shape in
     let y = g.S.Stacked.progress c.args.store.now in
     let r = c.args.r in
@@ -52,7 +52,7 @@ returns-then-is-purple g c =
     let many : length (g.S.Stacked.progress c.walk.new.store).store.candidates ≡ length y.store.candidates =
     ap (λ z. length z.store.candidates) e ∙ ap length m.candidates_same in
     let purple : is_purple (at y r).colour ≡ true =
-    sym (ap (λ h. is_purple h.colour) c.read-head.ensures.value) ∙ sym c.if-is-purple.ensures.value in
+    sym (ap (λ h. is_purple h.colour) c.read_head.ensures.value) ∙ sym c.if-is_purple.ensures.value in
     record {
       meaning = c.push.ensures.after ∙ ap (λ z. kept_listed z r) e ∙ sym (mark_purple k y r purple);
       wide = ap length c.push.ensures.kept ∙ c.walk.ensures.wide;

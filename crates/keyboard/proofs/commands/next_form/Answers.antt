@@ -5,10 +5,10 @@ use Rattle.keyboard.proofs.commands.next_form.Goals as goal
 
 pub returns-in-Command : goal.returns-in-Command
 returns-in-Command c =
-    let first = c.in-ok-name.ensures.value ∙ ap (λ w. text_of w ∷ left c.next.new.self) c.in-Command.is in
+    let first = c.in_ok-name.ensures.value ∙ ap (λ w. text_of w ∷ left c.next.new.self) c.in-Command.is in
     record { value = by_name _ _ _ _ first c.named.ensures.value }
 
 pub returns-in-Digits : goal.returns-in-Digits
 returns-in-Digits c =
-    let e = c.in-ok-name.ensures in
-    record { value = by_digit _ (text_of c.in-ok-name.field-0) _ e.value (sym e.kind ∙ ap is_digits c.in-Digits.is) }
+    let e = c.in_ok-name.ensures in
+    record { value = by_digit _ (text_of c.in_ok-name.field-0) _ e.value (sym e.kind ∙ ap is_digits c.in-Digits.is) }

@@ -42,14 +42,14 @@ pub returns-in-Byte : goal.returns-in-Byte
 returns-in-Byte g c =
     let k = g.S.Records.shape in
     let v = state g.S.Stacked c.args.store.now in
-    let z = state g.S.Stacked c.write-byte.new.store in
+    let z = state g.S.Stacked c.write_byte.new.store in
     let said = c.granted.ensures.value in
     let answer =
-    ap (λ r. leaving r z) said ∙ c.write-byte.ensures.answer ∙ ap (answered k v) (sym c.in-Byte.is) in
+    ap (λ r. leaving r z) said ∙ c.write_byte.ensures.answer ∙ ap (answered k v) (sym c.in-Byte.is) in
     record {
       answer = answer;
-      lawful = c.write-byte.ensures.lawful;
-      untouched = λ e. c.write-byte.ensures.untouched (granted_refusal c.write-byte.result _ said e);
+      lawful = c.write_byte.ensures.lawful;
+      untouched = λ e. c.write_byte.ensures.untouched (granted_refusal c.write_byte.result _ said e);
       history = goes_on k v c.args.call c.granted.result z answer;
     }
 
@@ -123,14 +123,14 @@ pub returns-in-Drop : goal.returns-in-Drop
 returns-in-Drop g c =
     let k = g.S.Records.shape in
     let v = state g.S.Stacked c.args.store.now in
-    let z = state g.S.Stacked c.drop-hold.new.store in
+    let z = state g.S.Stacked c.drop_hold.new.store in
     let said = c.numbered-in-Drop.ensures.value in
     let answer =
-    ap (λ r. leaving r z) said ∙ c.drop-hold.ensures.answer ∙ ap (answered k v) (sym c.in-Drop.is) in
+    ap (λ r. leaving r z) said ∙ c.drop_hold.ensures.answer ∙ ap (answered k v) (sym c.in-Drop.is) in
     record {
       answer = answer;
-      lawful = c.drop-hold.ensures.lawful;
-      untouched = λ e. c.drop-hold.ensures.untouched (numbered_refusal c.drop-hold.result _ said e);
+      lawful = c.drop_hold.ensures.lawful;
+      untouched = λ e. c.drop_hold.ensures.untouched (numbered_refusal c.drop_hold.result _ said e);
       history = goes_on k v c.args.call c.numbered-in-Drop.result z answer;
     }
 

@@ -12,14 +12,14 @@ use Rattle.steps.specs.Replies.{leaving}
 use Rattle.steps.proofs.Keeps.{keeping_answered}
 use Rattle.steps.proofs.freeing.take_front.Goals as goal
 
-pub read-head-next-requires : goal.read-head-next-requires
-read-head-next-requires g c =
+pub read_head-next-requires : goal.read_head-next-requires
+read_head-next-requires g c =
     let v = state g.S.Stacked c.args.store.now in
     let f = front_free g.S.Records.shape v c.requires.lawful.keeping.rules (λ e. omega (arith, c.requires.front, e)) in
     record { lawful = c.requires.lawful.sound; named = subst (Within v) (sym c.requires.front.1) f.within }
 
-pub write-head-requires : goal.write-head-requires
-write-head-requires g c =
+pub write_head-requires : goal.write_head-requires
+write_head-requires g c =
     let v = state g.S.Stacked c.args.store.now in
     let f = front_free g.S.Records.shape v c.requires.lawful.keeping.rules (λ e. omega (arith, c.requires.front, e)) in
     record { lawful = c.requires.lawful.sound; named = subst (Within v) (sym c.requires.front.1) f.within }
@@ -28,22 +28,22 @@ pub returns : goal.returns
 returns g c =
     let k = g.S.Records.shape in
     let v = state g.S.Stacked c.args.store.now in
-    let z = state g.S.Stacked c.set-front.new.self in
+    let z = state g.S.Stacked c.set_front.new.self in
     let r = c.args.r in
     let after : z ≡ taken v r =
-    ap (λ y. y.store) c.set-front.ensures.after
-    ∙ ap (λ y. with_front y.store c.read-head-next.result.next) c.write-head.ensures.after
-    ∙ ap (λ h. with_front (with_head v r h) c.read-head-next.result.next) c.made.ensures.value
-    ∙ ap (λ h. with_front (with_head v r made_header) h.next) c.read-head-next.ensures.value in
+    ap (λ y. y.store) c.set_front.ensures.after
+    ∙ ap (λ y. with_front y.store c.read_head-next.result.next) c.write_head.ensures.after
+    ∙ ap (λ h. with_front (with_head v r h) c.read_head-next.result.next) c.made.ensures.value
+    ∙ ap (λ h. with_front (with_head v r made_header) h.next) c.read_head-next.ensures.value in
     let answer =
     ap (leaving (Number r)) after ∙ ap (λ x. leaving (Number x) (taken v x)) c.requires.front.1
     ∙ sym (make_accepted v (λ e. omega (arith, c.requires.front, e))) in
     record {
       after = answer;
       lawful = record {
-        sound = c.set-front.ensures.lawful;
+        sound = c.set_front.ensures.lawful;
         keeping =
             keeping_answered k g.S.Stacked.width v z _ _ Make (Number r) c.requires.lawful.keeping answer (ap (λ y. length y.rows) after)
-            (ap length (c.set-front.ensures.kept ∙ c.write-head.ensures.kept));
+            (ap length (c.set_front.ensures.kept ∙ c.write_head.ensures.kept));
       };
     }

@@ -19,7 +19,7 @@ raised-requires g c =
       lawful = omega (
         arith,
         count_small g.S.Records.shape (state g.S.Stacked s) K.rules K.bounded c.args.r c.requires.used.0,
-        ap (λ h. h.count) c.read-head-head.ensures.value,
+        ap (λ h. h.count) c.read_head-head.ensures.value,
       );
     }
 
@@ -28,20 +28,20 @@ returns g c =
     let k = g.S.Records.shape in
     let v = state g.S.Stacked c.args.store.now in
     let r = c.args.r in
-    let old = c.read-head-head.ensures.value in
-    let new = c.held-more.ensures.value ∙ ap held_more (c.raised.ensures.value ∙ ap raised old) in
+    let old = c.read_head-head.ensures.value in
+    let new = c.held_more.ensures.value ∙ ap held_more (c.raised.ensures.value ∙ ap raised old) in
     let few : (head v r).holds < 1000 = omega (arith, c.if-head-ge1000.false, ap (λ h. h.holds) old) in
-    let after : state g.S.Stacked c.write-head.new.self ≡ with_head v r (held_more (raised (head v r))) =
-    ap (λ y. y.store) c.write-head.ensures.after ∙ ap (with_head v r) new in
+    let after : state g.S.Stacked c.write_head.new.self ≡ with_head v r (held_more (raised (head v r))) =
+    ap (λ y. y.store) c.write_head.ensures.after ∙ ap (with_head v r) new in
     let K = c.requires.lawful.keeping in
     record {
       answer = ap (leaving (Number c.args.answer)) after ∙ sym (hold_more_accepted v r c.args.answer few);
       lawful = record {
-        sound = c.write-head.ensures.lawful;
+        sound = c.write_head.ensures.lawful;
         keeping =
-            keeping_on k g.S.Stacked.width v (state g.S.Stacked c.write-head.new.self) _ _ K
+            keeping_on k g.S.Stacked.width v (state g.S.Stacked c.write_head.new.self) _ _ K
             (subst (Lawful k) (sym after) (lawful_held_more k v r K.rules c.requires.used few))
-            (ap (λ y. length y.rows) after) (ap length c.write-head.ensures.kept);
+            (ap (λ y. length y.rows) after) (ap length c.write_head.ensures.kept);
       };
       untouched = λ e. absurd (false≢true e);
     }

@@ -13,8 +13,8 @@ count_by_map p f (x ∷ xs) =
     ∙ ap (λ n. cond (p (f x)) 1 0 + n) (count_by_map p f xs)
     ∙ sym (sum_by-cons (λ y. cond (p (f y)) 1 0) x xs)
 
-pub overflow-add-used : goal.overflow-add-used
-overflow-add-used c =
+pub overflow_add-used : goal.overflow_add-used
+overflow_add-used c =
     let hs = c.args.heads.now in
     omega (
       arith,

@@ -17,8 +17,8 @@ loop-i-preserved c =
     let f : ℕ → Header = λ r. free_header (next_free n r) in
     let next : c.if-i-n.next ≡ next_free n (i + 1) =
     elim c.if-i-n.branch [
-      | then-i-n w ↦ (let e : c.if-i-n.next ≡ (i + 1) + 1 = omega (arith, w.next_is) in e) ∙ sym (cond-true (ltb (i + 1) n) ((i + 1) + 1) 0 (lt-ltb (i + 1) n w.if-i-n.true))
-      | else-i-n w ↦ w.next_is ∙ sym (cond-false (ltb (i + 1) n) ((i + 1) + 1) 0 (le-ltb (i + 1) n w.if-i-n.false))
+      | then-i-n w ↦ (let e : c.if-i-n.next ≡ (i + 1) + 1 = omega (arith, w.next-is) in e) ∙ sym (cond-true (ltb (i + 1) n) ((i + 1) + 1) 0 (lt-ltb (i + 1) n w.if-i-n.true))
+      | else-i-n w ↦ w.next-is ∙ sym (cond-false (ltb (i + 1) n) ((i + 1) + 1) 0 (le-ltb (i + 1) n w.if-i-n.false))
     ] in
     ap (map header) (take_more_set hs i y (omega arith))
     ∙ map_push header (take i hs) y

@@ -21,8 +21,8 @@ returns-then-not-visit g c =
       lawful = e.lawful;
     }
 
-pub overflow-mul-t : goal.overflow-mul-t
-overflow-mul-t g c = let h = c.requires.named in search rules
+pub overflow_mul-t : goal.overflow_mul-t
+overflow_mul-t g c = let h = c.requires.named in search rules
 
 pub put-requires : goal.put-requires
 put-requires g c =
@@ -33,8 +33,8 @@ put-requires g c =
       small = omega (arith, c.requires.named);
     }
 
-pub overflow-add-result : goal.overflow-add-result
-overflow-add-result g c =
+pub overflow_add-result : goal.overflow_add-result
+overflow_add-result g c =
     let e = c.if-not-visit.ensures in
     let l : length (g.S.Stacked.stack c.put.new.self) ≡ length (g.S.Stacked.stack c.visit.new.store) = ap length c.put.ensures.after ∙ length-set _ _ _ in
     let h : c.args.top < length (g.S.Stacked.stack c.put.new.self) = omega (arith, c.requires.free (sym e.answer), e.wide, l) in

@@ -42,8 +42,8 @@ loop-top-preserved-then-i-p g c =
       (c.leave.ensures.lawful, c.leave.ensures.aside ∙ c.loop-top.invariant.1.1),
     )
 
-pub overflow-add-n : goal.overflow-add-n
-overflow-add-n g c =
+pub overflow_add-n : goal.overflow_add-n
+overflow_add-n g c =
     let a = c.loop-top.invariant.0 in
     let o = at_top c.requires.keeps a c.loop-top-test.true c.entry-n.ensures.value in
     let h : c.entry-n.result < 2 ^ 32 = omega (arith, o.1, a.bounds.few) in

@@ -11,7 +11,7 @@ returns g c =
     let t = view g.K.Kind c.args.store.now in
     let line = kept c.args.self.now in
     let answer =
-    c.finish.ensures.answer ∙ sym (cond-false (eqb (length line) 0) _ _ (sym c.if-is-empty.ensures.value)) in
+    c.finish.ensures.answer ∙ sym (cond-false (eqb (length line) 0) _ _ (sym c.if-is_empty.ensures.value)) in
     record {
       answer = answer;
       lawful = c.finish.ensures.lawful;

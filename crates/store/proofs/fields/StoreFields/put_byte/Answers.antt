@@ -7,7 +7,7 @@ record-record-requires g c =
     let n = size_is g.K.Kind c.args.self.now c.requires.lawful in
     record { room = c.requires.lawful; within = (c.requires.named.0, omega (arith, c.requires.named.1, n)) }
 
-pub set-record-requires : goal.set-record-requires
-set-record-requires g c =
+pub set_record-requires : goal.set_record-requires
+set_record-requires g c =
     let n = size_is g.K.Kind c.args.self.now c.requires.lawful in
     record { room = c.requires.lawful; within = (c.requires.named.0, omega (arith, c.requires.named.1, n)) }

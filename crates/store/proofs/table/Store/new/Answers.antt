@@ -16,18 +16,18 @@ returns g c =
     let hs = length c.args.heads.now in
     let ls = length c.args.list.now in
     let ws = length c.args.work.now in
-    let records = c.blank-records.new.records in
-    let heads = c.chain-heads.new.heads in
-    let e = sym c.test-tables.ensures.value ∙ c.if-test-tables-ne0.false in
+    let records = c.blank_records.new.records in
+    let heads = c.chain_heads.new.heads in
+    let e = sym c.test_tables.ensures.value ∙ c.if-test_tables-ne0.false in
     let f = fitting n hs ls ws e in
     let size = size_fitting n hs ls ws e in
-    let r : length records ≡ n = omega (arith, c.blank-records.auto.records) in
-    let h : length heads ≡ n = omega (arith, c.chain-heads.auto.heads, f.heads_same) in
+    let r : length records ≡ n = omega (arith, c.blank_records.auto.records) in
+    let h : length heads ≡ n = omega (arith, c.chain_heads.auto.heads, f.heads_same) in
     let store =
     made_state k n _ _ _ size f.some
-    (ap (map header) (take_all (length records) heads (omega arith)) ∙ c.chain-heads.ensures.after
+    (ap (map header) (take_all (length records) heads (omega arith)) ∙ c.chain_heads.ensures.after
     ∙ ap (λ m. map (λ x. free_header (next_free m x)) (range_with_len 1 m)) f.heads_same)
-    (ap (map g.K.Kind.row) (take_all (length records) records (omega arith)) ∙ c.blank-records.ensures.after) in
+    (ap (map g.K.Kind.row) (take_all (length records) records (omega arith)) ∙ c.blank_records.ensures.after) in
     record {
       store = store;
       lawful = record {

@@ -1,8 +1,8 @@
 use Rattle.model.proofs.Gathers.{gather_leave_within, gather_given_small, gather_front_small}
 use Rattle.tracing.proofs.gather.GatherWalk.leave.Goals as goal
 
-pub give-up-requires : goal.give-up-requires
-give-up-requires g c =
+pub give_up-requires : goal.give_up-requires
+give_up-requires g c =
     let y = g.S.Stacked.progress c.args.store.now in
     let k = g.S.Records.shape in
     let ready = c.requires.lawful.1 in

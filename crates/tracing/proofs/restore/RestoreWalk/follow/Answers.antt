@@ -9,6 +9,6 @@ more-requires g c =
     let ready = c.requires.lawful.1 in
     omega (
       arith,
-      ap (λ h. h.count) c.read-head-head.ensures.value,
+      ap (λ h. h.count) c.read_head-head.ensures.value,
       restoring_small g.S.Records.shape y c.args.t ready.rest c.requires.named ready.fits.0 ready.fits.1.1,
     )

@@ -18,7 +18,7 @@ walk-requires g c =
     let ready = c.requires.lawful.1 in
     let n = ready.fits.1 in
     let tint : is_gray (at y c.args.t).colour ≡ true =
-    sym (ap (λ h. is_gray h.colour) c.read-head-head.ensures.value) ∙ sym c.if-not-is-gray.ensures.value in
+    sym (ap (λ h. is_gray h.colour) c.read_head-head.ensures.value) ∙ sym c.if-not-is_gray.ensures.value in
     record {
       lawful = (c.requires.lawful.0, (scan_restores k y c.args.t ready.rest ready.fits.0 tint, n));
       keeps = narrow_keeps restoring (Restoring k) k p (open_room unblack) n (restoring_keeps k);
