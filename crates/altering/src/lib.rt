@@ -18,9 +18,9 @@ use walks::stacked::Stacked;
 
 // Sets link `l` of a held record to a held record, or to 0. Answers the give-ups.
 pub fn link<S: Fields>(store: &mut S, r: usize, l: usize, t: usize) -> Result<usize, Refusal>
-    requires lawful { LawfulStore S.Stacked S.Records store.old }
+    requires lawful { LawfulStore S.Stacked S.Records.own store.old }
     ensures answer { leaving (numbered_reply result) (state S.Stacked store.new) ≡ link_call S.Records.shape (state S.Stacked store.old) r l t }
-    ensures lawful { LawfulStore S.Stacked S.Records store.new }
+    ensures lawful { LawfulStore S.Stacked S.Records.own store.new }
     ensures untouched { is_err result ≡ true → store.new ≡ store.old }
 {
     if !are_held(store, r, t) {
@@ -34,9 +34,9 @@ pub fn link<S: Fields>(store: &mut S, r: usize, l: usize, t: usize) -> Result<us
 
 // Sets byte `b` of a held record.
 pub fn write_byte<S: Fields>(store: &mut S, r: usize, b: usize, v: u8) -> Result<(), Refusal>
-    requires lawful { LawfulStore S.Stacked S.Records store.old }
+    requires lawful { LawfulStore S.Stacked S.Records.own store.old }
     ensures answer { leaving (granted_reply result) (state S.Stacked store.new) ≡ byte_call S.Records.shape (state S.Stacked store.old) r b v }
-    ensures lawful { LawfulStore S.Stacked S.Records store.new }
+    ensures lawful { LawfulStore S.Stacked S.Records.own store.new }
     ensures untouched { is_err result ≡ true → store.new ≡ store.old }
 {
     if !is_held(store, r) {
@@ -51,9 +51,9 @@ pub fn write_byte<S: Fields>(store: &mut S, r: usize, b: usize, v: u8) -> Result
 
 // Takes one hold from a held record, and lowers it. Answers the give-ups.
 pub fn drop_hold<S: Fields>(store: &mut S, r: usize) -> Result<usize, Refusal>
-    requires lawful { LawfulStore S.Stacked S.Records store.old }
+    requires lawful { LawfulStore S.Stacked S.Records.own store.old }
     ensures answer { leaving (numbered_reply result) (state S.Stacked store.new) ≡ drop_call S.Records.shape (state S.Stacked store.old) r }
-    ensures lawful { LawfulStore S.Stacked S.Records store.new }
+    ensures lawful { LawfulStore S.Stacked S.Records.own store.new }
     ensures untouched { is_err result ≡ true → store.new ≡ store.old }
 {
     if !is_held(store, r) {
@@ -64,9 +64,9 @@ pub fn drop_hold<S: Fields>(store: &mut S, r: usize) -> Result<usize, Refusal>
 
 // Gives up every record that cannot be come to from a held one. Answers the give-ups.
 pub fn collect<S: Fields>(store: &mut S) -> usize
-    requires lawful { LawfulStore S.Stacked S.Records store.old }
+    requires lawful { LawfulStore S.Stacked S.Records.own store.old }
     ensures answer { leaving (Number result) (state S.Stacked store.new) ≡ collect_call S.Records.shape (state S.Stacked store.old) }
-    ensures lawful { LawfulStore S.Stacked S.Records store.new }
+    ensures lawful { LawfulStore S.Stacked S.Records.own store.new }
     ensures law { AfterCollection S.Records.shape (started (state S.Stacked store.old)) (S.Stacked.progress store.new) }
 {
     store.start();

@@ -17,9 +17,9 @@ use walks::stacked::Stacked;
 
 // A record from the front of the free chain, with one hold. Answers its number.
 pub fn make<S: Fields>(store: &mut S) -> Result<usize, Refusal>
-    requires lawful { LawfulStore S.Stacked S.Records store.old }
+    requires lawful { LawfulStore S.Stacked S.Records.own store.old }
     ensures answer { leaving (numbered_reply result) (state S.Stacked store.new) ≡ make_call (state S.Stacked store.old) }
-    ensures lawful { LawfulStore S.Stacked S.Records store.new }
+    ensures lawful { LawfulStore S.Stacked S.Records.own store.new }
     ensures untouched { is_err result ≡ true → store.new ≡ store.old }
 {
     let r = store.front();
@@ -32,9 +32,9 @@ pub fn make<S: Fields>(store: &mut S) -> Result<usize, Refusal>
 
 // One more hold on a held record, which is raised for it. Answers the holds.
 pub fn hold<S: Fields>(store: &mut S, r: usize) -> Result<usize, Refusal>
-    requires lawful { LawfulStore S.Stacked S.Records store.old }
+    requires lawful { LawfulStore S.Stacked S.Records.own store.old }
     ensures answer { leaving (numbered_reply result) (state S.Stacked store.new) ≡ hold_call (state S.Stacked store.old) r }
-    ensures lawful { LawfulStore S.Stacked S.Records store.new }
+    ensures lawful { LawfulStore S.Stacked S.Records.own store.new }
     ensures untouched { is_err result ≡ true → store.new ≡ store.old }
 {
     if !is_held(store, r) {
@@ -46,9 +46,9 @@ pub fn hold<S: Fields>(store: &mut S, r: usize) -> Result<usize, Refusal>
 
 // Reads a link of a held record. The record that it names gets a hold; an empty link takes none.
 pub fn load<S: Fields>(store: &mut S, r: usize, l: usize) -> Result<Option<usize>, Refusal>
-    requires lawful { LawfulStore S.Stacked S.Records store.old }
+    requires lawful { LawfulStore S.Stacked S.Records.own store.old }
     ensures answer { leaving (loaded_reply result) (state S.Stacked store.new) ≡ load_call S.Records.shape (state S.Stacked store.old) r l }
-    ensures lawful { LawfulStore S.Stacked S.Records store.new }
+    ensures lawful { LawfulStore S.Stacked S.Records.own store.new }
     ensures untouched { is_err result ≡ true → store.new ≡ store.old }
 {
     if !is_held(store, r) {
@@ -62,7 +62,7 @@ pub fn load<S: Fields>(store: &mut S, r: usize, l: usize) -> Result<Option<usize
 
 // Byte `b` of a held record. It alters nothing.
 pub fn look<S: Fields>(store: &S, r: usize, b: usize) -> Result<u8, Refusal>
-    requires lawful { LawfulStore S.Stacked S.Records store.now }
+    requires lawful { LawfulStore S.Stacked S.Records.own store.now }
     ensures answer { leaving (numbered_reply result) (state S.Stacked store.now) ≡ look_call S.Records.shape (state S.Stacked store.now) r b }
 {
     if !is_held(store, r) {
@@ -76,7 +76,7 @@ pub fn look<S: Fields>(store: &S, r: usize, b: usize) -> Result<u8, Refusal>
 
 // How many records are in use. It alters nothing.
 pub fn tally<S: Fields>(store: &S) -> usize
-    requires lawful { LawfulStore S.Stacked S.Records store.now }
+    requires lawful { LawfulStore S.Stacked S.Records.own store.now }
     ensures value { result ≡ in_use (state S.Stacked store.now) }
 {
     store.used()

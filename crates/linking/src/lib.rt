@@ -22,11 +22,11 @@ pub fn are_held<S: Fields>(store: &S, r: usize, t: usize) -> bool
 
 // Reads a link that the record has. The record that it names gets a hold; an empty link takes none.
 pub fn load_link<S: Fields>(store: &mut S, r: usize, l: usize) -> Result<Option<usize>, Refusal>
-    requires lawful { LawfulStore S.Stacked S.Records store.old }
+    requires lawful { LawfulStore S.Stacked S.Records.own store.old }
     requires held { is_held (state S.Stacked store.old) r ≡ true }
     requires field { l < S.Records.shape.links }
     ensures answer { leaving (loaded result) (state S.Stacked store.new) ≡ load_call S.Records.shape (state S.Stacked store.old) r l }
-    ensures lawful { LawfulStore S.Stacked S.Records store.new }
+    ensures lawful { LawfulStore S.Stacked S.Records.own store.new }
     ensures untouched { is_err result ≡ true → store.new ≡ store.old }
 {
     let t = store.link(r, l);
@@ -41,11 +41,11 @@ pub fn load_link<S: Fields>(store: &mut S, r: usize, l: usize) -> Result<Option<
 
 // The new target is raised, the link is written, and then the old target is lowered.
 pub fn relink<S: Fields>(store: &mut S, r: usize, l: usize, t: usize) -> usize
-    requires lawful { LawfulStore S.Stacked S.Records store.old }
+    requires lawful { LawfulStore S.Stacked S.Records.own store.old }
     requires held { (is_held (state S.Stacked store.old) r && (t == 0 || is_held (state S.Stacked store.old) t)) ≡ true }
     requires field { l < S.Records.shape.links }
     ensures answer { leaving (Number result) (state S.Stacked store.new) ≡ link_call S.Records.shape (state S.Stacked store.old) r l t }
-    ensures lawful { LawfulStore S.Stacked S.Records store.new }
+    ensures lawful { LawfulStore S.Stacked S.Records.own store.new }
 {
     store.start();
     let old = store.link(r, l);
@@ -57,10 +57,10 @@ pub fn relink<S: Fields>(store: &mut S, r: usize, l: usize, t: usize) -> usize
 
 // Takes the hold first and then lowers, so that no head has more holds than its count.
 pub fn let_go<S: Fields>(store: &mut S, r: usize) -> usize
-    requires lawful { LawfulStore S.Stacked S.Records store.old }
+    requires lawful { LawfulStore S.Stacked S.Records.own store.old }
     requires held { is_held (state S.Stacked store.old) r ≡ true }
     ensures answer { leaving (Number result) (state S.Stacked store.new) ≡ drop_call S.Records.shape (state S.Stacked store.old) r }
-    ensures lawful { LawfulStore S.Stacked S.Records store.new }
+    ensures lawful { LawfulStore S.Stacked S.Records.own store.new }
 {
     store.start();
     let head = store.read_head(r);
@@ -71,11 +71,11 @@ pub fn let_go<S: Fields>(store: &mut S, r: usize) -> usize
 
 // Writes a byte that the record has.
 pub fn set_byte<S: Fields>(store: &mut S, r: usize, b: usize, v: u8)
-    requires lawful { LawfulStore S.Stacked S.Records store.old }
+    requires lawful { LawfulStore S.Stacked S.Records.own store.old }
     requires held { is_held (state S.Stacked store.old) r ≡ true }
     requires field { b < S.Records.shape.bytes }
     ensures after { leaving Done (state S.Stacked store.new) ≡ byte_call S.Records.shape (state S.Stacked store.old) r b v }
-    ensures lawful { LawfulStore S.Stacked S.Records store.new }
+    ensures lawful { LawfulStore S.Stacked S.Records.own store.new }
 {
     store.put_byte(r, b, v);
 }

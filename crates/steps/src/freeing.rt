@@ -19,10 +19,10 @@ use walks::steps::Walk;
 
 // Takes record `r`, the front of the free chain, into use.
 pub fn take_front<S: Fields>(store: &mut S, r: usize)
-    requires lawful { LawfulStore S.Stacked S.Records store.old }
+    requires lawful { LawfulStore S.Stacked S.Records.own store.old }
     requires front { (1 ≤ r) × (r ≡ (state S.Stacked store.old).front) }
     ensures after { leaving (Number r) (state S.Stacked store.new) ≡ make_call (state S.Stacked store.old) }
-    ensures lawful { LawfulStore S.Stacked S.Records store.new }
+    ensures lawful { LawfulStore S.Stacked S.Records.own store.new }
 {
     let next = store.read_head(r).next;
     store.write_head(r, Head::made());

@@ -23,10 +23,10 @@ pub fn is_held<S: Fields>(store: &S, r: usize) -> bool
 
 // One more hold on a record in use, unless it has the most that are allowed. Answers what it is told to.
 pub fn add_hold<S: Fields>(store: &mut S, r: usize, answer: usize) -> Result<usize, Refusal>
-    requires lawful { LawfulStore S.Stacked S.Records store.old }
+    requires lawful { LawfulStore S.Stacked S.Records.own store.old }
     requires used { Used (state S.Stacked store.old) r }
     ensures answer { leaving (numbered result) (state S.Stacked store.new) ≡ hold_more (state S.Stacked store.old) r answer }
-    ensures lawful { LawfulStore S.Stacked S.Records store.new }
+    ensures lawful { LawfulStore S.Stacked S.Records.own store.new }
     ensures untouched { is_err result ≡ true → store.new ≡ store.old }
 {
     let head = store.read_head(r);
