@@ -67,10 +67,10 @@ def is_own(name):
 
 
 # Names that stand beside a function of the code, or beside another name of this kind, in one file.
-BY_HAND = {"isBlack": "says_black", "isGray": "says_gray", "isWhite": "says_white", "isPurple": "says_purple", "gatherOne": "gathered_one", "markOne": "marked_one", "Gives-none": "gives_none", "countBy-map": "count_by_map"}
+BY_HAND = {"isBlack": "says_black", "isGray": "says_gray", "isWhite": "says_white", "isPurple": "says_purple", "gatherOne": "gathered_one", "markOne": "marked_one", "Gives-none": "gives_none", "countBy-map": "count_by_map", "Goes_on": "GoesOn"}
 
 # Names of ours that stand where the check's do, or that a pattern or a λ binds.
-BESIDE = {"Gives-none", "countBy-map", "raised-rows", "relinked-size", "yes-feed", "not-gone"}
+BESIDE = {"Goes_on", "Gives-none", "countBy-map", "raised-rows", "relinked-size", "yes-feed", "not-gone"}
 
 
 def spelled(name):

@@ -4,7 +4,7 @@ ghost use Rattle.answers.specs.Written.{line_of};
 ghost use Rattle.console.specs.Session.{Typed, Whole};
 ghost use Rattle.console.specs.Told.{kept, told, shown, struck, ended, finished};
 ghost use Rattle.keyboard.specs.Lines.{meaning};
-ghost use Rattle.model.specs.History.{Goes_on};
+ghost use Rattle.model.specs.History.{GoesOn};
 ghost use Rattle.model.specs.declared.calls.Call.{Call as CallOf};
 ghost use Rattle.model.specs.State.{State};
 ghost use Rattle.steps.specs.Replies.{leaving, is_refusal};
@@ -38,7 +38,7 @@ impl Desk {
         ensures answer { leaving result (view K.Kind store.new) ≡ told K.Kind.shape (view K.Kind store.old) (kept self.now) }
         ensures lawful { LawfulStore K.Kind store.new }
         ensures untouched { is_refusal result ≡ true → store.new ≡ store.old }
-        ensures history { (c : CallOf) → meaning (kept self.now) ≡ Some c → Goes_on K.Kind.shape (view K.Kind store.old) c result (view K.Kind store.new) }
+        ensures history { (c : CallOf) → meaning (kept self.now) ≡ Some c → GoesOn K.Kind.shape (view K.Kind store.old) c result (view K.Kind store.new) }
     {
         match command(self.line.bytes()) {
             Some(call) => perform(store, call),
@@ -52,7 +52,7 @@ impl Desk {
         ensures answer { record { line = kept self.new; output = line_of result; store = view K.Kind store.new } ≡ finished (told K.Kind.shape (view K.Kind store.old) (kept self.old)) }
         ensures lawful { LawfulStore K.Kind store.new }
         ensures untouched { is_refusal (told K.Kind.shape (view K.Kind store.old) (kept self.old)).reply ≡ true → store.new ≡ store.old }
-        ensures history { (c : CallOf) → meaning (kept self.old) ≡ Some c → Goes_on K.Kind.shape (view K.Kind store.old) c (told K.Kind.shape (view K.Kind store.old) (kept self.old)).reply (view K.Kind store.new) }
+        ensures history { (c : CallOf) → meaning (kept self.old) ≡ Some c → GoesOn K.Kind.shape (view K.Kind store.old) c (told K.Kind.shape (view K.Kind store.old) (kept self.old)).reply (view K.Kind store.new) }
     {
         let reply = self.reply(store);
         self.line.clear();
@@ -65,7 +65,7 @@ impl Desk {
         ensures answer { record { line = kept self.new; output = shown result; store = view K.Kind store.new } ≡ struck K.Kind.shape (view K.Kind store.old) (kept self.old) byte }
         ensures lawful { LawfulStore K.Kind store.new }
         ensures untouched { is_refusal (told K.Kind.shape (view K.Kind store.old) (kept self.old)).reply ≡ true → store.new ≡ store.old }
-        ensures history { (c : CallOf) → byte ≡ 10 → meaning (kept self.old) ≡ Some c → Goes_on K.Kind.shape (view K.Kind store.old) c (told K.Kind.shape (view K.Kind store.old) (kept self.old)).reply (view K.Kind store.new) }
+        ensures history { (c : CallOf) → byte ≡ 10 → meaning (kept self.old) ≡ Some c → GoesOn K.Kind.shape (view K.Kind store.old) c (told K.Kind.shape (view K.Kind store.old) (kept self.old)).reply (view K.Kind store.new) }
         ensures session { (s : State) (input output : List ℕ) → Typed K.Kind.shape s input output (kept self.old) (view K.Kind store.old) → Typed K.Kind.shape s (input ++ byte ∷ []) (output ++ shown result) (kept self.new) (view K.Kind store.new) }
     {
         if byte == b'\n' {

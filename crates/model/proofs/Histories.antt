@@ -11,7 +11,7 @@ use Rattle.model.specs.Lawful.{Lawful, Used, Held, Links, Chain, naming, once}
 use Rattle.model.specs.Release.{lower}
 use Rattle.model.specs.Collection.{collected}
 use Rattle.model.specs.Walk.{Progress}
-use Rattle.model.specs.History.{Event, Entry, Ledger, entry, no_entry, empty_ledger, one_more, one_less, linked, byte_written, noted, ledger, made_by, given_by, makes, give_ups, is_collect, ends_in_collection, in_play, Live, Promises, After, Goes_on, events, then}
+use Rattle.model.specs.History.{Event, Entry, Ledger, entry, no_entry, empty_ledger, one_more, one_less, linked, byte_written, noted, ledger, made_by, given_by, makes, give_ups, is_collect, ends_in_collection, in_play, Live, Promises, After, GoesOn, events, then}
 use Rattle.model.specs.declared.calls.Call.{Call}
 use Rattle.model.specs.declared.calls.Call.TheVariants.{Make, Hold, Load, Link, Byte, Look, Drop, Collect, Tally}
 use Rattle.model.specs.declared.calls.Reply.{Reply}
@@ -369,7 +369,7 @@ after_then k n es s c after =
 
 -- One call as its definition answers it goes on with every history.
 pub goes_on :
-    (k : Shape) (s : State) (c : Call) (r : Reply) (t : State) → record { reply = r; store = t } ≡ answered k s c → Goes_on k s c r t
+    (k : Shape) (s : State) (c : Call) (r : Reply) (t : State) → record { reply = r; store = t } ≡ answered k s c → GoesOn k s c r t
 goes_on k s c r t e n es after =
     let on = subst (λ (a : Answered). After k n (then es c a.reply) a.store) (sym e) (after_then k n es s c after) in
     (on, (every_history k n (then es c r) t on).1)

@@ -187,6 +187,6 @@ abbrev pub then : List Event → Call → Reply → List Event
 then es c r = es ++ (record { call = c; reply = r } ∷ [])
 
 -- Whatever history led to the store s, the call c with its answer r goes on with it and leads to the store t.
-abbrev pub Goes_on : Shape → State → Call → Reply → State → Type 0
-Goes_on k s c r t =
+abbrev pub GoesOn : Shape → State → Call → Reply → State → Type 0
+GoesOn k s c r t =
     (n : ℕ) (es : List Event) → After k n es s → After k n (then es c r) t × Promises k n (then es c r) t

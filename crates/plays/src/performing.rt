@@ -1,7 +1,7 @@
 // One call in, one reply out.
 ghost use Rattle.std.specs.Prelude.{◌≡◌, true};
 ghost use Rattle.model.specs.Calls.{answered};
-ghost use Rattle.model.specs.History.{Goes_on};
+ghost use Rattle.model.specs.History.{GoesOn};
 ghost use Rattle.steps.specs.Keeping.{state, LawfulStore};
 ghost use Rattle.steps.specs.Replies.{leaving, is_refusal};
 
@@ -19,7 +19,7 @@ pub fn perform<S: Fields>(store: &mut S, call: Call) -> Reply
     ensures answer { leaving (result) (state S.Stacked store.new) ≡ answered S.Records.shape (state S.Stacked store.old) call }
     ensures lawful { LawfulStore S.Stacked S.Records.own store.new }
     ensures untouched { is_refusal result ≡ true → store.new ≡ store.old }
-    ensures history { Goes_on S.Records.shape (state S.Stacked store.old) call result (state S.Stacked store.new) }
+    ensures history { GoesOn S.Records.shape (state S.Stacked store.old) call result (state S.Stacked store.new) }
 {
     match call {
         Call::Make => numbered(make(store)),

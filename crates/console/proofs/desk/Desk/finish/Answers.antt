@@ -1,7 +1,7 @@
 use Rattle.std.proofs.Common.{◌≡◌, ℕ, List, [], sym, ap, ◌∙◌, subst}
 use Rattle.answers.specs.Answers.{answer_line}
 use Rattle.answers.specs.Written.{line_of}
-use Rattle.model.specs.History.{Goes_on}
+use Rattle.model.specs.History.{GoesOn}
 use Rattle.steps.specs.Replies.{is_refusal}
 use Rattle.store.specs.View.{view}
 use Rattle.console.specs.Told.{Stroke, finished}
@@ -19,5 +19,5 @@ returns g c =
       lawful = e.lawful;
       untouched = λ t. e.untouched (ap (λ a. is_refusal a.reply) e.answer ∙ t);
       history = λ d m.
-          subst (λ r. Goes_on g.K.Kind.shape (view g.K.Kind c.args.store.now) d r z) (ap (λ a. a.reply) e.answer) (e.history d m);
+          subst (λ r. GoesOn g.K.Kind.shape (view g.K.Kind c.args.store.now) d r z) (ap (λ a. a.reply) e.answer) (e.history d m);
     }
