@@ -1,4 +1,6 @@
 // The score card, a kind of record.
+#![tactic(auto)]
+
 pub mod card;
 #[cfg(test)]
 mod tests;

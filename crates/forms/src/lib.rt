@@ -1,4 +1,6 @@
 // The forms of a line, told apart by their command words.
+#![tactic(auto)]
+
 ghost use Rattle.std.specs.Option.{MatchOption};
 ghost use Rattle.forms.specs.Names.{Names, Nameless};
 

@@ -1,5 +1,5 @@
 -- What a record of any kind means: a list of links and a list of bytes.
-use Rattle.std.specs.Prelude.{◌≡◌, ℕ, ◌<◌, ◌≤◌, List, length, replicate, slice_set}
+use Rattle.std.specs.Prelude.{◌≡◌, ℕ, ◌≤◌, List, length, replicate, slice_set}
 use Rattle.std.specs.List.{AllByRecursion as All}
 
 -- the three numbers that a kind fixes: how many links and bytes each record has, and the code of the kind in an image

@@ -1,4 +1,6 @@
 // A line while it is typed. A line of 81 bytes is outside the forms whatever follows, so the first 81 suffice.
+#![tactic(auto)]
+
 ghost use Rattle.std.specs.Prelude.{◌≡◌, ◌≤◌, length};
 
 mod typing;

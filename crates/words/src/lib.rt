@@ -1,4 +1,6 @@
 // A line split into its words, and the numbers that they write.
+#![tactic(auto)]
+
 pub mod laws;
 mod numbers;
 mod splitting;
