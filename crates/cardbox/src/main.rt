@@ -1,9 +1,9 @@
 // The card box: keeps 200 score cards, and answers each line that is typed.
 ghost use Rattle.store.specs.View.{LawfulStore};
 
-use cards::card::Card;
+use kinds::card::Card;
 use console::desk::Desk;
-use heads::head::Head;
+use model::heads::Head;
 use kinds::kind::Kind;
 use std::io;
 use std::io::{BufWriter, Read, Write};

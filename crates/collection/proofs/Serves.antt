@@ -5,7 +5,7 @@ use Rattle.model.specs.Collected.{AfterMark, AfterScan}
 use Rattle.model.specs.Collection.{marking, mark_one, struck, kept_listed, list_taken}
 use Rattle.model.specs.Lawful.{Lawful}
 use Rattle.model.specs.Release.{at}
-use Rattle.heads.specs.Headers.{is_purple}
+use Rattle.model.specs.Headers.{is_purple}
 use Rattle.model.specs.Releasing.{FewGiven}
 use Rattle.model.specs.Walk.{Progress, full}
 use Rattle.model.proofs.MarkLaws.{MarkList, mark_start, mark_within, mark_begins, mark_front, mark_given}

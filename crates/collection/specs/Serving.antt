@@ -1,7 +1,7 @@
 -- What holds where a listed record is served.
 use Rattle.std.specs.Prelude.{ℕ, ◌<◌, ◌≤◌, [], ◌∷◌, length}
 use Rattle.kinds.specs.Rows.{Shape}
-use Rattle.heads.specs.Headers.{unlisted}
+use Rattle.model.specs.Headers.{unlisted}
 use Rattle.model.specs.Colouring.{Marking, Gathering}
 use Rattle.model.specs.Release.{at, turn}
 use Rattle.model.specs.Releasing.{FewGiven}

@@ -1,7 +1,7 @@
 -- A worked session at the keyboard, byte for byte.
 use Rattle.std.specs.Prelude.{◌≡◌, ℕ, List, [], ◌∷◌, ◌++◌, codes}
 use Rattle.std.specs.List.{AllByRecursion as All}
-use Rattle.cards.specs.contracts.card.CardKind.TheImpl.{ghosts as card_kind}
+use Rattle.kinds.specs.contracts.card.CardKind.TheImpl.{ghosts as card_kind}
 use Rattle.model.specs.Calls.{new}
 use Rattle.console.specs.Session.{session}
 

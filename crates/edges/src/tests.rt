@@ -1,8 +1,8 @@
 // Stores at the ends of what is allowed: no record, one, the most; the most holds; and what a collection leaves.
-use heads::head::Head;
+use model::heads::Head;
 use kinds::kind::Kind;
 use model::calls::{Call, Reply};
-use pairs::pair::Pair;
+use kinds::pair::Pair;
 use plays::playing::play;
 use tables::fits::test_tables;
 

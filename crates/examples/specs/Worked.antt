@@ -2,16 +2,16 @@
 use Rattle.std.specs.Prelude.{◌≡◌, ℕ, List, [], ◌∷◌, map, Some, None, Option}
 use Rattle.std.specs.List.{AllByRecursion as All}
 use Rattle.kinds.specs.Rows.{Shape}
-use Rattle.cards.specs.contracts.card.CardKind.TheImpl.{ghosts as card_kind}
-use Rattle.pairs.specs.contracts.pair.PairKind.TheImpl.{ghosts as pair_kind}
+use Rattle.kinds.specs.contracts.card.CardKind.TheImpl.{ghosts as card_kind}
+use Rattle.kinds.specs.contracts.pair.PairKind.TheImpl.{ghosts as pair_kind}
 use Rattle.model.specs.State.{State}
 use Rattle.model.specs.Calls.{Played, played, new}
 use Rattle.model.specs.declared.calls.Call.{Call}
 use Rattle.model.specs.declared.calls.Call.TheVariants.{Make, Link, Drop, Collect, Tally}
 use Rattle.model.specs.declared.calls.Reply.{Reply}
 use Rattle.model.specs.declared.calls.Reply.TheVariants.{Number, Refused}
-use Rattle.heads.specs.declared.head.Colour.{Colour}
-use Rattle.heads.specs.declared.head.Colour.TheVariants.{Black, Purple}
+use Rattle.model.specs.declared.heads.Colour.{Colour}
+use Rattle.model.specs.declared.heads.Colour.TheVariants.{Black, Purple}
 use Rattle.model.specs.declared.refusals.Refusal.TheVariants.{NotHeld, Full}
 
 -- the shapes of the two kinds, as their impls say

@@ -3,7 +3,7 @@ use Rattle.std.proofs.Common.{◌≡◌, ℕ, zero, suc, ◌+◌, ◌<◌, ◌�
 use Rattle.std.proofs.lemmas.Bool.{cond-true, cond-false, ne_eqb, eq-eqb, le-leb, lt-leb, lt-ltb, le-ltb, and_right}
 use Rattle.kinds.specs.Rows.{Shape}
 use Rattle.model.specs.State.{State, head, with_head}
-use Rattle.heads.specs.Headers.{raised, held_more}
+use Rattle.model.specs.Headers.{raised, held_more}
 use Rattle.model.specs.Calls.{Answered, refused, is_held, asked, taken, make, hold_more}
 use Rattle.model.specs.declared.calls.Reply.TheVariants.{Number}
 use Rattle.model.specs.declared.refusals.Refusal.TheVariants.{TooManyHolds}

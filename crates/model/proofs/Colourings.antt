@@ -5,7 +5,7 @@ use Rattle.std.proofs.lemmas.List.Sums.{sum_by-cons, sum_by-set}
 use Rattle.std.proofs.lemmas.Bool.{cases_eq, cases_Bool, cond-true, cond-false, eq-eqb, ne_eqb, eqb-true}
 use Rattle.kinds.specs.Rows.{Row}
 use Rattle.model.specs.State.{State, Within, head, row, no_row, with_head}
-use Rattle.heads.specs.Headers.{Header, free_header}
+use Rattle.model.specs.Headers.{Header, free_header}
 use Rattle.model.specs.Lawful.{Links, Used, naming, named, once}
 use Rattle.model.specs.Walk.{Progress, Task, Absent}
 use Rattle.model.specs.Walk.Task.{follow, visit, leave}

@@ -4,7 +4,7 @@ use Rattle.std.proofs.lemmas.List.{get_or-set_same, get_or-set_other}
 use Rattle.std.proofs.lemmas.Bool.{cases_Bool, cases_eq, ne_eqb, eq-eqb}
 use Rattle.kinds.specs.Rows.{Shape, blank}
 use Rattle.model.specs.State.{State, head, row}
-use Rattle.heads.specs.Headers.{Header, free_header}
+use Rattle.model.specs.Headers.{Header, free_header}
 use Rattle.model.specs.Lawful.{naming, once}
 use Rattle.model.specs.Walk.{Progress, Rule, runs, walk, full, Task, Keeps}
 use Rattle.model.specs.Walk.Task.{follow, visit, leave}

@@ -4,7 +4,7 @@ use Rattle.std.proofs.lemmas.List.Sums.{sum_by-set}
 use Rattle.std.proofs.lemmas.Bool.{cases_eq, both_ways, true≢false, and_parts, cond-true, cond-false, eqb-true, eq-eqb, not-true}
 use Rattle.kinds.specs.Rows.{Row, Shape, blank}
 use Rattle.model.specs.State.{State, Within, head, row, no_row, in_use, with_head, with_candidates}
-use Rattle.heads.specs.Headers.{Header, free_header, painted, unlisted, is_black, is_white}
+use Rattle.model.specs.Headers.{Header, free_header, painted, unlisted, is_black, is_white}
 use Rattle.model.specs.Lawful.{Lawful, From, Links, Used, Held, Reachable, Chain, naming, once}
 use Rattle.model.specs.Lawful.From.{here, along}
 use Rattle.model.specs.Walk.{Progress, Task}
@@ -14,8 +14,8 @@ use Rattle.model.specs.Releasing.{live_named, naming_live, FewGiven}
 use Rattle.model.specs.Collection.{gathering, gather_one, gathered, list_taken}
 use Rattle.model.specs.Colouring.{naming_where, named_where, Awaited, Gathering, white, open_room}
 use Rattle.model.specs.Collected.{Listed, AfterScan, AfterCollection}
-use Rattle.heads.specs.declared.head.Colour.{Colour}
-use Rattle.heads.specs.declared.head.Colour.TheVariants.{Black, Gray, White, Purple}
+use Rattle.model.specs.declared.heads.Colour.{Colour}
+use Rattle.model.specs.declared.heads.Colour.TheVariants.{Black, Gray, White, Purple}
 use Rattle.model.proofs.Places.{each_head, head_there}
 use Rattle.model.proofs.Paths.{from_inside}
 use Rattle.model.proofs.Counting.{naming_cons, naming_same, naming_other, naming_blank, naming_has}

@@ -5,7 +5,7 @@ use Rattle.std.proofs.lemmas.List.Sums.{sum_by-set, count_by-le-length, get_or-l
 use Rattle.std.proofs.lemmas.Bool.{cases_eq, both_ways, true≢false, and_parts, eq-eqb, ne_eqb}
 use Rattle.kinds.specs.Rows.{Row, Shape, blank}
 use Rattle.model.specs.State.{State, Within, head, row, in_use, with_head}
-use Rattle.heads.specs.Headers.{Header, free_header, painted, is_white}
+use Rattle.model.specs.Headers.{Header, free_header, painted, is_white}
 use Rattle.model.specs.Lawful.{Settled, naming, once}
 use Rattle.model.specs.Walk.{Progress, Task, Absent, Turned, Left, Keeps}
 use Rattle.model.specs.Walk.Task.{follow, visit, leave}
@@ -14,7 +14,7 @@ use Rattle.model.specs.Release.{at, turn, given_up}
 use Rattle.model.specs.Releasing.{live_named, FewGiven}
 use Rattle.model.specs.Collection.{gathering}
 use Rattle.model.specs.Colouring.{Queue, Orderly, Gathering, white, open_room, open_once}
-use Rattle.heads.specs.declared.head.Colour.TheVariants.{Black}
+use Rattle.model.specs.declared.heads.Colour.TheVariants.{Black}
 use Rattle.model.proofs.Places.{each_head, head_there}
 use Rattle.model.proofs.LiveCounting.{live_same}
 use Rattle.model.proofs.LawfulCalls.{chain_elsewhere}

@@ -5,7 +5,7 @@ use Rattle.std.proofs.lemmas.List.Sums.{sum_by-cons, sum_by-set, fold_push}
 use Rattle.std.proofs.lemmas.Bool.{both_ways, true≢false, false≢true, cond_both, and_parts, not-true, eqb-false, leb-true, ltb-true, cases_eq}
 use Rattle.kinds.specs.Rows.{Row, Shape, blank, with_link, with_byte}
 use Rattle.model.specs.State.{State, Within, head, row, no_row, in_use, with_head, with_row, with_front}
-use Rattle.heads.specs.Headers.{Header, free_header, made_header, raised, held_more, held_less}
+use Rattle.model.specs.Headers.{Header, free_header, made_header, raised, held_more, held_less}
 use Rattle.model.specs.Calls.{Answered, Played, refused, is_held, asked, taken, make, hold, hold_more, hold_answer, load, load_answer, started, raised_at, relinked, link, link_answer, byte, byte_answer, look, look_answer, drop, drop_answer, collect, answered, new, played}
 use Rattle.model.specs.Lawful.{Lawful, Used, Held, Links, Chain, naming, once}
 use Rattle.model.specs.Release.{lower}

@@ -5,7 +5,7 @@ use Rattle.std.proofs.lemmas.List.Sums.{count_by-le-length}
 use Rattle.std.proofs.lemmas.Bool.{cond_both, eqb-true, eqb-false, ltb-true, and_parts, or_cases}
 use Rattle.kinds.specs.Rows.{Shape}
 use Rattle.model.specs.State.{State, Within, head, row, with_head}
-use Rattle.heads.specs.Headers.{Header, free_header, raised, held_less}
+use Rattle.model.specs.Headers.{Header, free_header, raised, held_less}
 use Rattle.model.specs.Calls.{Answered, refused, is_held, asked, make, hold, hold_more, hold_answer, load_link, load_answer, started, raised_at, relinked, link_answer, byte_answer, look_answer, drop_answer, answered}
 use Rattle.model.specs.Lawful.{Lawful, Used, Held}
 use Rattle.model.specs.Releasing.{Releasing}

@@ -5,7 +5,7 @@ use Rattle.std.proofs.lemmas.List.Sums.{sum_by-set}
 use Rattle.std.proofs.lemmas.Bool.{true≢false, eq-eqb}
 use Rattle.kinds.specs.Rows.{Row, Shape, blank}
 use Rattle.model.specs.State.{State, Within, head, row, no_row, in_use, with_head, with_row, with_front}
-use Rattle.heads.specs.Headers.{Header, free_header}
+use Rattle.model.specs.Headers.{Header, free_header}
 use Rattle.model.specs.Lawful.{Links, Chain, Settled, naming, once}
 use Rattle.model.specs.Walk.{Progress}
 use Rattle.model.specs.Release.{given_up}

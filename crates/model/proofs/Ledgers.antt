@@ -4,7 +4,7 @@ use Rattle.std.proofs.lemmas.List.Sums.{sum_by-cons}
 use Rattle.std.proofs.lemmas.Bool.{both_ways, true≢false, and_from, and_parts, ne_eqb, eqb-true, not-true, cond-true, cond-false}
 use Rattle.kinds.specs.Rows.{Row, Shape, blank}
 use Rattle.model.specs.State.{State, Within, head, row, no_row}
-use Rattle.heads.specs.Headers.{Header, free_header}
+use Rattle.model.specs.Headers.{Header, free_header}
 use Rattle.model.specs.Lawful.{Lawful, From, Used, Reachable, naming, named}
 use Rattle.model.specs.Lawful.From.{here, along}
 use Rattle.model.specs.History.{Entry, Ledger, entry, no_entry, in_play, tied_among, tied_in, Handed, Tied, Live}

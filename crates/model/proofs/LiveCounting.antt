@@ -4,7 +4,7 @@ use Rattle.std.proofs.lemmas.List.Sums.{sum_by-cons}
 use Rattle.std.proofs.lemmas.Bool.{cond-true, cond-false, eq-eqb, ne_eqb}
 use Rattle.kinds.specs.Rows.{Row}
 use Rattle.model.specs.State.{State, head, row, no_row}
-use Rattle.heads.specs.Headers.{Header, free_header}
+use Rattle.model.specs.Headers.{Header, free_header}
 use Rattle.model.specs.Lawful.{naming, once}
 use Rattle.model.specs.Releasing.{naming_live, pending, Calm, Busy}
 use Rattle.model.specs.Walk.{Task}

@@ -5,7 +5,7 @@ use Rattle.std.proofs.lemmas.List.Sums.{sum_by-set}
 use Rattle.std.proofs.lemmas.Bool.{cases_eq, cases_Bool, both_ways, true≢false, cond-true, cond-false, eqb-true, eqb-false, eq-eqb, ne_eqb}
 use Rattle.kinds.specs.Rows.{Row, Shape, blank}
 use Rattle.model.specs.State.{State, Within, head, row, no_row, in_use, with_head, with_row, with_front}
-use Rattle.heads.specs.Headers.{Header, free_header, less_one}
+use Rattle.model.specs.Headers.{Header, free_header, less_one}
 use Rattle.model.specs.Lawful.{Lawful, Proper, Settled, Coloured, Resting, From, Used, Held, Links, Reachable, Spent, Candidate, Chain, naming, named, once}
 use Rattle.model.specs.Walk.{Progress, Task, Turned, walk, full}
 use Rattle.model.specs.Walk.Task.{follow, visit, leave}

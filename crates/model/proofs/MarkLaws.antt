@@ -5,7 +5,7 @@ use Rattle.std.proofs.lemmas.List.Sums.{sum_by-cons, sum_by-append, get_or-le-su
 use Rattle.std.proofs.lemmas.Bool.{cases_eq, cases_lt, both_ways, true≢false, and_from, and_parts, cond-true, cond-false, eqb-true, eq-eqb, ne_eqb}
 use Rattle.kinds.specs.Rows.{Row, Shape, blank}
 use Rattle.model.specs.State.{State, Within, head, row, no_row, in_use, with_head, with_front, with_candidates}
-use Rattle.heads.specs.Headers.{Header, free_header, painted, less_one, is_purple, unlisted, is_black, is_gray}
+use Rattle.model.specs.Headers.{Header, free_header, painted, less_one, is_purple, unlisted, is_black, is_gray}
 use Rattle.model.specs.Lawful.{From, Lawful, Links, Spent, Candidate, Chain, Settled, Coloured, naming, named, once}
 use Rattle.model.specs.Lawful.From.{here, along}
 use Rattle.model.specs.Walk.{Progress, Task, full}
@@ -15,8 +15,8 @@ use Rattle.model.specs.Releasing.{Next}
 use Rattle.model.specs.Collection.{marking, list_taken, kept_listed, struck, mark_one, marked}
 use Rattle.model.specs.Colouring.{Marking, ungray, named_where, due, Awaited, Queue, open_room}
 use Rattle.model.specs.Collected.{Hanging, Listed, Accounted, AfterMark}
-use Rattle.heads.specs.declared.head.Colour.{Colour}
-use Rattle.heads.specs.declared.head.Colour.TheVariants.{Black, Gray, White, Purple}
+use Rattle.model.specs.declared.heads.Colour.{Colour}
+use Rattle.model.specs.declared.heads.Colour.TheVariants.{Black, Gray, White, Purple}
 use Rattle.model.proofs.Places.{each_head, head_there, head_elsewhere}
 use Rattle.model.proofs.Paths.{from_more}
 use Rattle.model.proofs.Counting.{naming_cons, naming_same, naming_other, naming_has, naming_le_named}

@@ -5,7 +5,7 @@ use Rattle.std.proofs.lemmas.List.Sums.{count_by-le-length}
 use Rattle.std.proofs.lemmas.Bool.{cases_eq, both_ways, eq-eqb, ne_eqb}
 use Rattle.kinds.specs.Rows.{Shape}
 use Rattle.model.specs.State.{State, Within, head, row, with_head}
-use Rattle.heads.specs.Headers.{Header, painted, less_one, is_gray}
+use Rattle.model.specs.Headers.{Header, painted, less_one, is_gray}
 use Rattle.model.specs.Lawful.{Settled, naming, once}
 use Rattle.model.specs.Walk.{Progress, Task, Absent, Turned, Left, Keeps}
 use Rattle.model.specs.Walk.Task.{follow, visit, leave}
@@ -13,7 +13,7 @@ use Rattle.model.specs.Entering.{Opens}
 use Rattle.model.specs.Release.{at, turn}
 use Rattle.model.specs.Collection.{marking}
 use Rattle.model.specs.Colouring.{Sized, Marking, ungray, named_where, due, open_room, open_once}
-use Rattle.heads.specs.declared.head.Colour.TheVariants.{Gray}
+use Rattle.model.specs.declared.heads.Colour.TheVariants.{Gray}
 use Rattle.model.proofs.Places.{each_head, head_there, head_elsewhere}
 use Rattle.model.proofs.Releases.{counted_used}
 use Rattle.model.proofs.Colourings.{where_same, where_off, due_hit, due_miss, due_links, queue_stands, queue_elsewhere, queue_absent, queue_links, queue_orderly, room_set, once_set}

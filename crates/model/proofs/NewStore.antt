@@ -7,10 +7,10 @@ use Rattle.std.proofs.lemmas.List.Sums.{sum_by-cons}
 use Rattle.std.proofs.lemmas.Bool.{false≢true, cond-true, cond-false, lt-ltb, le-ltb, cases_eq}
 use Rattle.kinds.specs.Rows.{Row, Shape, blank}
 use Rattle.model.specs.State.{State, Within, head, row, no_row, in_use}
-use Rattle.heads.specs.Headers.{Header, free_header}
+use Rattle.model.specs.Headers.{Header, free_header}
 use Rattle.model.specs.Calls.{new, next_free}
 use Rattle.model.specs.Lawful.{Lawful, Proper, Chain, Used, Links, naming, named, once}
-use Rattle.heads.specs.declared.head.Colour.TheVariants.{Black}
+use Rattle.model.specs.declared.heads.Colour.TheVariants.{Black}
 use Rattle.model.proofs.Counting.{naming_same, naming_other, naming_blank, naming_has}
 
 -- nothing is named by blank rows, and nothing in use among free heads

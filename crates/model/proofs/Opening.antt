@@ -4,14 +4,14 @@ use Rattle.std.proofs.lemmas.List.{get_or-set_same, get_or-set_other}
 use Rattle.std.proofs.lemmas.Bool.{cases_Bool, cases_eq, ne_eqb, eq-eqb}
 use Rattle.kinds.specs.Rows.{Shape}
 use Rattle.model.specs.State.{State, head, row}
-use Rattle.heads.specs.Headers.{Header, free_header, painted, less_one, suspected, is_purple}
+use Rattle.model.specs.Headers.{Header, free_header, painted, less_one, suspected, is_purple}
 use Rattle.model.specs.Lawful.{once}
 use Rattle.model.specs.Walk.{Progress, Task}
 use Rattle.model.specs.Walk.Task.{follow, visit, leave}
 use Rattle.model.specs.Entering.{Opens}
 use Rattle.model.specs.Release.{at, turn, suspect, released, releasing, listed_too, spent, given_up}
 use Rattle.model.specs.Releasing.{Calm, Releasing, FewGiven, visited_next, counted_open}
-use Rattle.heads.specs.declared.head.Colour.TheVariants.{Black, Purple}
+use Rattle.model.specs.declared.heads.Colour.TheVariants.{Black, Purple}
 use Rattle.model.proofs.Releases.{follow_within, follow_spare}
 
 calm_next : (s : State) (r : ℕ) (Q : List Task) → Calm s Q → visited_next r Q ≡ 0

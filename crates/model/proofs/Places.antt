@@ -4,7 +4,7 @@ use Rattle.std.proofs.lemmas.List.{get_or-set_same, get_or-set_other}
 use Rattle.std.proofs.lemmas.Bool.{cases_eq}
 use Rattle.kinds.specs.Rows.{Row}
 use Rattle.model.specs.State.{State, Within, head, row, no_row, with_head, with_row}
-use Rattle.heads.specs.Headers.{Header, free_header}
+use Rattle.model.specs.Headers.{Header, free_header}
 
 -- what stands under number r in a list of which entry x is replaced
 pub each_set :

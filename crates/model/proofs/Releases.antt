@@ -5,15 +5,15 @@ use Rattle.std.proofs.lemmas.List.Sums.{sum_by-cons, sum_by-set, sum_by-append, 
 use Rattle.std.proofs.lemmas.Bool.{cases_eq, cases_Bool, cases_lt, both_ways, true≢false, cond-true, cond-false, eqb-true, eqb-false, eq-eqb, ne_eqb}
 use Rattle.kinds.specs.Rows.{Row, Shape, blank}
 use Rattle.model.specs.State.{State, Within, head, row, in_use, with_head, with_candidates}
-use Rattle.heads.specs.Headers.{Header, free_header, painted, less_one, suspected, is_purple}
+use Rattle.model.specs.Headers.{Header, free_header, painted, less_one, suspected, is_purple}
 use Rattle.model.specs.Lawful.{From, Held, Links, Candidate, Chain, Settled, Coloured, Resting, naming, once}
 use Rattle.model.specs.Lawful.From.{here, along}
 use Rattle.model.specs.Walk.{Progress, Task, Absent, Turned, Left, Keeps}
 use Rattle.model.specs.Walk.Task.{follow, visit, leave}
 use Rattle.model.specs.Release.{at, moved, turn, suspect, spent, given_up, released, releasing, listed_too}
 use Rattle.model.specs.Releasing.{live_named, naming_live, pending, Visiting, Ending, Calm, Tidy, Busy, Next, Start, LiveLink, Releasing, visited_ended, counted_room}
-use Rattle.heads.specs.declared.head.Colour.{Colour}
-use Rattle.heads.specs.declared.head.Colour.TheVariants.{Black, Gray, White, Purple}
+use Rattle.model.specs.declared.heads.Colour.{Colour}
+use Rattle.model.specs.declared.heads.Colour.TheVariants.{Black, Gray, White, Purple}
 use Rattle.model.proofs.Places.{each_head, head_there, head_elsewhere}
 use Rattle.model.proofs.Paths.{from_more, from_past}
 use Rattle.model.proofs.Counting.{naming_cons, naming_has}

@@ -6,7 +6,7 @@ use Rattle.std.proofs.lemmas.List.Sums.{count_by-le-length}
 use Rattle.std.proofs.lemmas.Bool.{cases_eq, both_ways, true≢false, eq-eqb, ne_eqb}
 use Rattle.kinds.specs.Rows.{Row, Shape}
 use Rattle.model.specs.State.{State, Within, head, row, no_row, with_head}
-use Rattle.heads.specs.Headers.{Header, free_header, painted, more_one, is_black}
+use Rattle.model.specs.Headers.{Header, free_header, painted, more_one, is_black}
 use Rattle.model.specs.Lawful.{Links, Used, Settled, naming, once}
 use Rattle.model.specs.Walk.{Progress, Task, full, Turned, Keeps}
 use Rattle.model.specs.Walk.Task.{follow, visit, leave}
@@ -15,8 +15,8 @@ use Rattle.model.specs.Release.{at, turn}
 use Rattle.model.specs.Collection.{restoring}
 use Rattle.model.specs.Releasing.{Next}
 use Rattle.model.specs.Colouring.{Awaited, named_where, due, Queue, Orderly, open_room, open_once, Sized, unblack, Restoring}
-use Rattle.heads.specs.declared.head.Colour.{Colour}
-use Rattle.heads.specs.declared.head.Colour.TheVariants.{Black, Gray, White, Purple}
+use Rattle.model.specs.declared.heads.Colour.{Colour}
+use Rattle.model.specs.declared.heads.Colour.TheVariants.{Black, Gray, White, Purple}
 use Rattle.model.proofs.Walks.{Also, keeps_and, walk_keeps}
 use Rattle.model.proofs.Places.{each_head, head_there, head_elsewhere}
 use Rattle.model.proofs.Counting.{naming_has}

@@ -3,7 +3,7 @@ use Rattle.std.proofs.Common.{◌≡◌, ℕ, zero, suc, ◌+◌, ◌-◌, ◌<�
 use Rattle.std.proofs.lemmas.Bool.{cases_eq, cases_Bool, both_ways, true≢false, eqb-false, and_cases}
 use Rattle.kinds.specs.Rows.{Row, Shape}
 use Rattle.model.specs.State.{State, Within, head, row, no_row, in_use, with_head}
-use Rattle.heads.specs.Headers.{Header, free_header, painted, is_black, is_gray, is_white}
+use Rattle.model.specs.Headers.{Header, free_header, painted, is_black, is_gray, is_white}
 use Rattle.model.specs.Lawful.{From, Lawful, Held, Links, Used, Spent, Chain, Reachable, Settled, naming, once}
 use Rattle.model.specs.Lawful.From.{here, along}
 use Rattle.model.specs.Walk.{Progress, Task, full}
@@ -12,8 +12,8 @@ use Rattle.model.specs.Release.{at, turn}
 use Rattle.model.specs.Collection.{restoring, scanning, scan_one, scanned}
 use Rattle.model.specs.Colouring.{ungray, unblack, gray, open_room, Scanning}
 use Rattle.model.specs.Collected.{Listed, Kept, Filed, AfterMark, AfterScan}
-use Rattle.heads.specs.declared.head.Colour.{Colour}
-use Rattle.heads.specs.declared.head.Colour.TheVariants.{Black, Gray, White, Purple}
+use Rattle.model.specs.declared.heads.Colour.{Colour}
+use Rattle.model.specs.declared.heads.Colour.TheVariants.{Black, Gray, White, Purple}
 use Rattle.model.proofs.Walks.{Also, keeps_and, walk_keeps}
 use Rattle.model.proofs.Places.{each_head}
 use Rattle.model.proofs.Paths.{from_more}

@@ -5,7 +5,7 @@ use Rattle.std.proofs.lemmas.List.Sums.{sum_by-cons, count_by-le-length}
 use Rattle.std.proofs.lemmas.Bool.{cases_lt, cases_Bool, both_ways, true≢false, eqb-true, and_parts}
 use Rattle.kinds.specs.Rows.{Shape}
 use Rattle.model.specs.State.{Within, head, row, with_head}
-use Rattle.heads.specs.Headers.{Header, free_header, painted, is_black, is_gray, is_white}
+use Rattle.model.specs.Headers.{Header, free_header, painted, is_black, is_gray, is_white}
 use Rattle.model.specs.Lawful.{once}
 use Rattle.model.specs.Walk.{Progress, Task, Turned, Keeps, full}
 use Rattle.model.specs.Walk.Task.{follow, visit, leave}
@@ -13,8 +13,8 @@ use Rattle.model.specs.Entering.{Opens}
 use Rattle.model.specs.Release.{at, turn}
 use Rattle.model.specs.Collection.{restoring, scanning}
 use Rattle.model.specs.Colouring.{named_where, Queue, Orderly, open_room, open_once, Sized, gray, Restoring, Scanning}
-use Rattle.heads.specs.declared.head.Colour.{Colour}
-use Rattle.heads.specs.declared.head.Colour.TheVariants.{Black, Gray, White, Purple}
+use Rattle.model.specs.declared.heads.Colour.{Colour}
+use Rattle.model.specs.declared.heads.Colour.TheVariants.{Black, Gray, White, Purple}
 use Rattle.model.proofs.Places.{each_head, head_there}
 use Rattle.model.proofs.Colourings.{where_same, queue_stands, queue_absent, queue_orderly}
 use Rattle.model.proofs.Restores.{Restored, unblack_used, painted_settled, sized_turn, used_turn, queue_turn, room_turn, links_follow, open_at_most, open_entered, restore_walked}

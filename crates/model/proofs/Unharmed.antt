@@ -6,7 +6,7 @@ use Rattle.std.proofs.lemmas.List.Sums.{sum_by-set}
 use Rattle.std.proofs.lemmas.Bool.{cases_eq, both_ways, cond-true, cond-false, and_parts}
 use Rattle.kinds.specs.Rows.{Row, Shape, blank}
 use Rattle.model.specs.State.{State, Within, head, row, no_row, in_use, with_head, with_row, with_front}
-use Rattle.heads.specs.Headers.{Header, free_header, painted, less_one, suspected}
+use Rattle.model.specs.Headers.{Header, free_header, painted, less_one, suspected}
 use Rattle.model.specs.History.{in_play}
 use Rattle.model.specs.Lawful.{Lawful, Reachable, once}
 use Rattle.model.specs.Lawful.From.{here}
@@ -15,7 +15,7 @@ use Rattle.model.specs.Walk.Task.{follow, visit, leave}
 use Rattle.model.specs.Release.{at, moved, turn, suspect, spent, given_up, released, releasing, lower}
 use Rattle.model.specs.Collected.{AfterCollection}
 use Rattle.model.specs.Releasing.{Releasing, FewGiven, counted_room}
-use Rattle.heads.specs.declared.head.Colour.TheVariants.{Black}
+use Rattle.model.specs.declared.heads.Colour.TheVariants.{Black}
 use Rattle.model.proofs.Places.{each_head, each_both}
 use Rattle.model.proofs.Ledgers.{playing, counted, reachable_playing}
 use Rattle.model.proofs.Releases.{release_keeps, doubted, suspect_is, follow_within}

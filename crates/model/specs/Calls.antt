@@ -3,7 +3,7 @@ use Rattle.std.specs.Prelude.{ℕ, zero, suc, ◌+◌, min, Bool, true, false, c
 use Rattle.std.specs.List.{range_with_len}
 use Rattle.kinds.specs.Rows.{Row, Shape, blank, with_link, with_byte}
 use Rattle.model.specs.State.{State, head, row, in_use, with_head, with_row, with_front}
-use Rattle.heads.specs.Headers.{Header, raised, held_more, held_less, free_header, made_header}
+use Rattle.model.specs.Headers.{Header, raised, held_more, held_less, free_header, made_header}
 use Rattle.model.specs.Release.{lower}
 use Rattle.model.specs.Collection.{collected}
 use Rattle.model.specs.Walk.{Progress}

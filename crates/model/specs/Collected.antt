@@ -2,11 +2,11 @@
 use Rattle.std.specs.Prelude.{◌≡◌, ℕ, ◌+◌, ◌<◌, ◌≤◌, Bool, true, false, ◌⊎◌, List, [], length}
 use Rattle.kinds.specs.Rows.{Shape}
 use Rattle.model.specs.State.{State, Within, head, row, in_use}
-use Rattle.heads.specs.Headers.{Header, is_black}
+use Rattle.model.specs.Headers.{Header, is_black}
 use Rattle.model.specs.Lawful.{From, Lawful, Links, Used, Spent, Candidate, Chain, Reachable, naming, once}
 use Rattle.model.specs.Walk.{Progress}
 use Rattle.model.specs.Colouring.{Sized, named_where, ungray}
-use Rattle.heads.specs.declared.head.Colour.TheVariants.{Black, Gray, White}
+use Rattle.model.specs.declared.heads.Colour.TheVariants.{Black, Gray, White}
 
 -- r hangs on a candidate, itself one or not
 abbrev pub Hanging : State → ℕ → Type 0

@@ -5,9 +5,9 @@ use Rattle.kinds.specs.Rows.{Shape}
 use Rattle.model.specs.State.{with_candidates}
 use Rattle.model.specs.Walk.{Progress, Rule, full}
 use Rattle.model.specs.Release.{at, moved, turn, given_up}
-use Rattle.heads.specs.Headers.{painted, less_one, is_purple, more_one, unlisted, is_black, is_gray, is_white}
-use Rattle.heads.specs.declared.head.Colour.{Colour}
-use Rattle.heads.specs.declared.head.Colour.TheVariants.{Black, Gray, White, Purple}
+use Rattle.model.specs.Headers.{painted, less_one, is_purple, more_one, unlisted, is_black, is_gray, is_white}
+use Rattle.model.specs.declared.heads.Colour.{Colour}
+use Rattle.model.specs.declared.heads.Colour.TheVariants.{Black, Gray, White, Purple}
 
 abbrev pub stay : Progress → ℕ → Progress
 stay g t = g

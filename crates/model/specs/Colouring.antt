@@ -3,13 +3,13 @@
 use Rattle.std.specs.Prelude.{◌≡◌, ℕ, ◌+◌, ◌<◌, ◌≤◌, Bool, true, false, cond, not, ◌&&◌, ◌||◌, ◌⊎◌, List, [], ◌∷◌, length, count_by, ◌==◌, ◌≢◌}
 use Rattle.kinds.specs.Rows.{Row, Shape}
 use Rattle.model.specs.State.{State, Within, head, row}
-use Rattle.heads.specs.Headers.{Header, is_black, is_gray, is_white}
+use Rattle.model.specs.Headers.{Header, is_black, is_gray, is_white}
 use Rattle.model.specs.Lawful.{Links, Used, Chain, Settled, naming, once}
 use Rattle.model.specs.Walk.{Progress, Task, Absent}
 use Rattle.model.specs.Walk.Task.{follow, visit, leave}
 use Rattle.model.specs.Releasing.{live_named, Next}
-use Rattle.heads.specs.declared.head.Colour.{Colour}
-use Rattle.heads.specs.declared.head.Colour.TheVariants.{Purple}
+use Rattle.model.specs.declared.heads.Colour.{Colour}
+use Rattle.model.specs.declared.heads.Colour.TheVariants.{Purple}
 
 -- how many links of the records that keep p name t
 abbrev pub naming_where : (Header → Bool) → ℕ → List Header → List Row → ℕ

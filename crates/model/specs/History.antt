@@ -2,7 +2,7 @@
 use Rattle.std.specs.Prelude.{◌≡◌, ℕ, ◌+◌, ◌-◌, ◌<◌, ◌≤◌, Bool, true, false, cond, not, ◌&&◌, List, [], ◌∷◌, ◌++◌, map, length, replicate, fold, sum_by, ◌==◌, slice_index, slice_index_or, slice_set}
 use Rattle.kinds.specs.Rows.{Shape, Row, blank, with_link, with_byte}
 use Rattle.model.specs.State.{State, Within, head, row, no_row, in_use}
-use Rattle.heads.specs.Headers.{Header}
+use Rattle.model.specs.Headers.{Header}
 use Rattle.model.specs.Calls.{new, played}
 use Rattle.model.specs.Lawful.{From, Lawful, Used, naming}
 use Rattle.model.specs.declared.calls.Call.{Call}

@@ -3,7 +3,7 @@ use Rattle.std.specs.Prelude.{◌≡◌, ℕ, ◌+◌, ◌-◌, Bool, true, fals
 use Rattle.std.specs.List.{range_with_len}
 use Rattle.kinds.specs.Rows.{Row, Shape, blank}
 use Rattle.model.specs.State.{State, in_use}
-use Rattle.heads.specs.Headers.{Header, free_header, painted, is_white}
+use Rattle.model.specs.Headers.{Header, free_header, painted, is_white}
 use Rattle.model.specs.Lawful.{naming}
 use Rattle.model.specs.Walk.{Progress, Rule, full}
 use Rattle.model.specs.Release.{at, turn}
@@ -13,7 +13,7 @@ use Rattle.model.specs.Format.{Contents, Parsed, is_some, contents_image, read_c
 use Rattle.model.specs.Format.Parsed.{says, fails}
 use Rattle.model.specs.declared.calls.Reply.{Reply}
 use Rattle.model.specs.declared.calls.Reply.TheVariants.{Number, Refused}
-use Rattle.heads.specs.declared.head.Colour.TheVariants.{Black, White}
+use Rattle.model.specs.declared.heads.Colour.TheVariants.{Black, White}
 use Rattle.model.specs.declared.refusals.Refusal.{Refusal}
 use Rattle.model.specs.declared.refusals.Refusal.TheVariants.{ListNotEmpty, OutputTooShort, BytesFollow, AbsentRecord, NotReachable}
 

@@ -2,8 +2,8 @@
 use Rattle.std.specs.Prelude.{◌≡◌, ℕ, ◌+◌, ◌<◌, ◌≤◌, Bool, true, false, cond, ◌⊎◌, List, [], ◌∷◌, length, sum_by, count_by, nat_eq, slice_index}
 use Rattle.kinds.specs.Rows.{Row, Shape, blank}
 use Rattle.model.specs.State.{State, Within, head, row}
-use Rattle.heads.specs.Headers.{Header, free_header}
-use Rattle.heads.specs.declared.head.Colour.TheVariants.{Black, Purple}
+use Rattle.model.specs.Headers.{Header, free_header}
+use Rattle.model.specs.declared.heads.Colour.TheVariants.{Black, Purple}
 
 abbrev pub Used : State → ℕ → Type 0
 Used s r = Within s r × ((head s r).used ≡ true)

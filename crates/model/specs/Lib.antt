@@ -1,4 +1,5 @@
 pub mod Refusals
+pub mod Headers
 pub mod State
 pub mod Calls
 pub mod Lawful

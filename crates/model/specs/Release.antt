@@ -2,10 +2,10 @@
 use Rattle.std.specs.Prelude.{ℕ, suc, ◌+◌, ◌-◌, Bool, true, false, cond, List, [], ◌∷◌, ◌++◌, ◌==◌}
 use Rattle.kinds.specs.Rows.{Shape, blank}
 use Rattle.model.specs.State.{State, head, with_head, with_row, with_front, with_candidates}
-use Rattle.heads.specs.Headers.{Header, free_header, is_purple, painted, less_one, suspected}
+use Rattle.model.specs.Headers.{Header, free_header, is_purple, painted, less_one, suspected}
 use Rattle.model.specs.Walk.{Progress, Rule, full}
-use Rattle.heads.specs.declared.head.Colour.{Colour}
-use Rattle.heads.specs.declared.head.Colour.TheVariants.{Black, Gray, White, Purple}
+use Rattle.model.specs.declared.heads.Colour.{Colour}
+use Rattle.model.specs.declared.heads.Colour.TheVariants.{Black, Gray, White, Purple}
 
 abbrev pub at : Progress → ℕ → Header
 at g r = head g.store r

@@ -2,7 +2,7 @@
 use Rattle.std.specs.Prelude.{◌≡◌, ℕ, zero, suc, ◌+◌, ◌-◌, ◌<◌, ◌≤◌, Bool, true, false, cond, not, ◌⊎◌, List, [], ◌∷◌, length, count_by, ◌==◌}
 use Rattle.kinds.specs.Rows.{Row, Shape, blank}
 use Rattle.model.specs.State.{State, Within, head, row, in_use}
-use Rattle.heads.specs.Headers.{Header}
+use Rattle.model.specs.Headers.{Header}
 use Rattle.model.specs.Lawful.{From, Held, Links, Candidate, Chain, Settled, Coloured, Resting, naming, once}
 use Rattle.model.specs.Walk.{Progress, Task, Absent}
 use Rattle.model.specs.Walk.Task.{follow, visit, leave}

@@ -2,7 +2,7 @@
 -- records. Record r stands at index r - 1 of each list; the number 0 names no record.
 use Rattle.std.specs.Prelude.{ℕ, ◌-◌, ◌≤◌, List, [], map, length, replicate, count_by, slice_index_or, slice_set}
 use Rattle.kinds.specs.Rows.{Row}
-use Rattle.heads.specs.Headers.{Header, free_header}
+use Rattle.model.specs.Headers.{Header, free_header}
 
 pub record State : Type 0 where
   pub heads : List Header

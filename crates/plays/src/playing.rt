@@ -5,7 +5,7 @@ ghost use Rattle.store.specs.View.{view, LawfulStore};
 ghost use Rattle.tables.specs.Tables.{table_size};
 
 use crate::performing::perform;
-use heads::head::Head;
+use model::heads::Head;
 use kinds::kind::Kind;
 use model::calls::{Call, Reply};
 use reclaim::records::Records;

@@ -4,9 +4,9 @@ ghost use Rattle.kinds.specs.Rows.{Shape, blank as blank_row};
 ghost use Rattle.model.specs.Collection.{kept_listed, list_taken};
 ghost use Rattle.model.specs.Release.{moved, turn, given_up};
 ghost use Rattle.model.specs.State.{head, Within, with_row};
-ghost use Rattle.heads.specs.Headers.{header};
+ghost use Rattle.model.specs.Headers.{header};
 
-use heads::head::Head;
+use model::heads::Head;
 use walks::stacked::Stacked;
 
 // A store whose records can be altered one part at a time. What is not named stays: the stack, and the table of the

@@ -5,7 +5,7 @@ ghost use Rattle.model.specs.Releasing.{Releasing, FewGiven, counted_room, count
 ghost use Rattle.model.specs.State.{head, Within};
 
 use crate::records::Records;
-use heads::head::Colour;
+use model::heads::Colour;
 use walks::stacked::Stacked;
 use walks::steps::Walk;
 

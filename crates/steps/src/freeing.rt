@@ -10,7 +10,7 @@ ghost use Rattle.steps.specs.Keeping.{state, LawfulStore};
 ghost use Rattle.steps.specs.Replies.{leaving};
 
 use crate::fields::Fields;
-use heads::head::Head;
+use model::heads::Head;
 use reclaim::records::Records;
 use reclaim::release::Release;
 use walks::run::walk;

@@ -2,7 +2,7 @@
 use Rattle.std.specs.Prelude.{◌≡◌, ℕ, ◌*◌, ◌≤◌, List, map, length, take}
 use Rattle.kinds.specs.declared.kind.Kind.{Ghosts}
 use Rattle.model.specs.State.{State}
-use Rattle.heads.specs.Headers.{header}
+use Rattle.model.specs.Headers.{header}
 use Rattle.model.specs.Walk.{Progress}
 use Rattle.steps.specs.Keeping.{LawfulStore as LawfulOf}
 use Rattle.reclaim.specs.declared.records.Records as reclaim

@@ -2,11 +2,11 @@
 ghost use Rattle.std.specs.Prelude.{◌≡◌, ◌<◌, ◌≤◌};
 ghost use Rattle.model.specs.Release.{moved};
 ghost use Rattle.model.specs.State.{head, row, with_head, with_row};
-ghost use Rattle.heads.specs.Headers.{header};
+ghost use Rattle.model.specs.Headers.{header};
 ghost use Rattle.store.specs.View.{view, progress, Roomy};
 
 use crate::table::Store;
-use heads::head::Head;
+use model::heads::Head;
 use kinds::kind::Kind;
 
 impl<'a, K: Kind> Store<'a, K> {

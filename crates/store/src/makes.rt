@@ -5,7 +5,7 @@ ghost use Rattle.tables.specs.Tables.{table_size};
 ghost use Rattle.store.specs.View.{view, LawfulStore};
 
 use crate::table::Store;
-use heads::head::Head;
+use model::heads::Head;
 use kinds::kind::Kind;
 use tables::fills::{blank_records, chain_heads};
 use tables::fits::test_tables;

@@ -2,7 +2,7 @@
 ghost use Rattle.store.specs.View.{view};
 
 use crate::table::Store;
-use heads::head::Head;
+use model::heads::Head;
 use kinds::kind::Kind;
 use reclaim::records::Records;
 use walks::stacked::Stacked;

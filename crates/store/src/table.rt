@@ -1,5 +1,5 @@
 // The store's tables.
-use heads::head::Head;
+use model::heads::Head;
 
 // A store of N records of one kind, over tables that the host lends.
 #[derive(Drop)]

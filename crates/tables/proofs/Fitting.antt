@@ -5,7 +5,7 @@ use Rattle.std.proofs.lemmas.Bool.{or_parts, and_parts, eqb-true, eqb-false, leb
 use Rattle.kinds.specs.Rows.{Row, Shape, blank}
 use Rattle.model.specs.Calls.{new, next_free}
 use Rattle.model.specs.State.{State}
-use Rattle.heads.specs.Headers.{Header, free_header}
+use Rattle.model.specs.Headers.{Header, free_header}
 use Rattle.tables.specs.Tables.{table_test, table_size}
 
 abbrev free_state : List Header → List Row → ℕ → State

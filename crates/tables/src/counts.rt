@@ -1,8 +1,8 @@
 // What the heads count.
 ghost use Rattle.std.specs.Prelude.{◌≡◌, map, take, count_by};
-ghost use Rattle.heads.specs.Headers.{header};
+ghost use Rattle.model.specs.Headers.{header};
 
-use heads::head::Head;
+use model::heads::Head;
 
 // How many of the first `n` heads are of records in use.
 pub fn count_used(heads: &[Head], n: usize) -> usize

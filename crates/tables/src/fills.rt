@@ -3,9 +3,9 @@ ghost use Rattle.std.specs.Prelude.{◌≡◌, ◌≤◌, map, length, replicate
 ghost use Rattle.std.specs.List.{range_with_len};
 ghost use Rattle.kinds.specs.Rows.{blank as blank_row};
 ghost use Rattle.model.specs.Calls.{next_free};
-ghost use Rattle.heads.specs.Headers.{header, free_header};
+ghost use Rattle.model.specs.Headers.{header, free_header};
 
-use heads::head::Head;
+use model::heads::Head;
 use kinds::kind::Kind;
 
 // Blanks every record.

@@ -2,7 +2,7 @@
 ghost use Rattle.std.specs.Prelude.{◌≡◌, length};
 ghost use Rattle.tables.specs.Tables.{table_test};
 
-use heads::head::Head;
+use model::heads::Head;
 use kinds::kind::Kind;
 use model::refusals::Refusal;
 

@@ -3,7 +3,7 @@ ghost use Rattle.model.specs.Collection.{gathering};
 ghost use Rattle.model.specs.Colouring.{Gathering, white, open_room, open_once};
 ghost use Rattle.model.specs.Releasing.{FewGiven};
 
-use heads::head::Colour;
+use model::heads::Colour;
 use reclaim::records::Records;
 use walks::stacked::Stacked;
 use walks::steps::Walk;

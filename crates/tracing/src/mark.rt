@@ -2,7 +2,7 @@
 ghost use Rattle.model.specs.Collection.{marking};
 ghost use Rattle.model.specs.Colouring.{Marking, ungray, open_room, open_once};
 
-use heads::head::Colour;
+use model::heads::Colour;
 use reclaim::records::Records;
 use walks::stacked::Stacked;
 use walks::steps::Walk;

@@ -3,7 +3,7 @@ ghost use Rattle.model.specs.Collection.{restoring};
 ghost use Rattle.model.specs.Colouring.{Restoring, unblack, open_room, open_once};
 ghost use Rattle.tracing.specs.Widths.{Narrow};
 
-use heads::head::Colour;
+use model::heads::Colour;
 use reclaim::records::Records;
 use walks::stacked::Stacked;
 use walks::steps::Walk;

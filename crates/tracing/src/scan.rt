@@ -4,7 +4,7 @@ ghost use Rattle.model.specs.Colouring.{Scanning, gray, open_room, open_once};
 ghost use Rattle.tracing.specs.Widths.{Narrow};
 
 use crate::restore::Restore;
-use heads::head::Colour;
+use model::heads::Colour;
 use reclaim::records::Records;
 use walks::run::walk;
 use walks::stacked::Stacked;

@@ -1,9 +1,9 @@
 // Runs small sessions on each kind of record, and prints every call with its reply.
-use cards::card::Card;
-use heads::head::Head;
+use kinds::card::Card;
+use model::heads::Head;
 use kinds::kind::Kind;
 use model::calls::{Call, Reply};
-use pairs::pair::Pair;
+use kinds::pair::Pair;
 use plays::playing::play;
 use std::io;
 

@@ -4,7 +4,7 @@ use Rattle.model.specs.Lawful.{Lawful}
 use Rattle.model.specs.Release.{lower, turn}
 use Rattle.model.specs.Releasing.{Releasing, FewGiven}
 use Rattle.model.specs.State.{head, with_head}
-use Rattle.heads.specs.Headers.{header, held_less}
+use Rattle.model.specs.Headers.{header, held_less}
 use Rattle.model.specs.Walk.Task.{follow}
 use Rattle.model.specs.declared.calls.Reply.TheVariants.{Number}
 use Rattle.model.proofs.Accepted.{asked_yes}

@@ -7,7 +7,7 @@ use Rattle.model.specs.Lawful.{Lawful}
 use Rattle.model.specs.Release.{moved, lower}
 use Rattle.model.specs.Releasing.{Releasing, FewGiven}
 use Rattle.model.specs.State.{State, Within, head, row, with_head, with_row}
-use Rattle.heads.specs.Headers.{raised}
+use Rattle.model.specs.Headers.{raised}
 use Rattle.model.specs.Walk.Task.{follow}
 use Rattle.model.specs.declared.calls.Reply.TheVariants.{Number}
 use Rattle.model.proofs.Accepted.{asked_yes}

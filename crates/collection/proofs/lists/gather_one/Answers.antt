@@ -1,5 +1,5 @@
 use Rattle.std.proofs.Common.{◌≡◌, [], ◌∷◌, length, sym, ap, ◌∙◌, subst, arith}
-use Rattle.heads.specs.Headers.{unlisted}
+use Rattle.model.specs.Headers.{unlisted}
 use Rattle.model.specs.Collection.{gathering}
 use Rattle.model.specs.Colouring.{Gathering, white, open_room}
 use Rattle.model.specs.Release.{at, turn}

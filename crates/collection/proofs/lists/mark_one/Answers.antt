@@ -2,7 +2,7 @@ use Rattle.std.proofs.Common.{◌≡◌, ◌+◌, true, [], ◌∷◌, length, d
 use Rattle.std.proofs.lemmas.List.{drop-set-lt, length-append}
 use Rattle.model.specs.Collection.{marking, kept_listed}
 use Rattle.model.specs.Release.{at}
-use Rattle.heads.specs.Headers.{is_purple}
+use Rattle.model.specs.Headers.{is_purple}
 use Rattle.model.specs.Colouring.{Marking, ungray, open_room}
 use Rattle.model.specs.Walk.{Keeps}
 use Rattle.model.proofs.Marks.{marking_keeps, marking_opens}

@@ -2,7 +2,7 @@ use Rattle.std.proofs.Common.{◌≡◌, ◌<◌, length, sym, ap, ◌∙◌, su
 use Rattle.std.proofs.lemmas.Bool.{false≢true}
 use Rattle.model.specs.Lawful.{Lawful}
 use Rattle.model.specs.State.{head, with_head}
-use Rattle.heads.specs.Headers.{raised, held_more}
+use Rattle.model.specs.Headers.{raised, held_more}
 use Rattle.model.specs.declared.calls.Reply.TheVariants.{Number}
 use Rattle.model.proofs.Accepted.{hold_more_accepted}
 use Rattle.model.proofs.LawfulCalls.{count_small, lawful_held_more}

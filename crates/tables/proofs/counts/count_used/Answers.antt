@@ -1,7 +1,7 @@
 use Rattle.std.proofs.Common.{◌≡◌, ◌+◌, min, Bool, cond, List, [], ◌∷◌, map, length, take, count_by, sym, refl, ap, ◌∙◌, arith, length-take}
 use Rattle.std.proofs.lemmas.List.Sums.{sum_by-cons, count_by-le-length, count_by_more_yes, count_by_more_no}
 use Rattle.std.proofs.lemmas.List.{length-take-le, take-take, take_all}
-use Rattle.heads.specs.Headers.{header}
+use Rattle.model.specs.Headers.{header}
 use Rattle.tables.proofs.counts.count_used.Goals as goal
 use Rattle.tables.proofs.counts.count_used.Goals.{then-heads-i, else-heads-i}
 

@@ -4,7 +4,7 @@ use Rattle.std.proofs.lemmas.List.{take_all, take_more_set, map_push}
 use Rattle.std.proofs.lemmas.List.FromFn.{map-range_with_len_more}
 use Rattle.std.proofs.lemmas.Bool.{cond-true, cond-false, lt-ltb, le-ltb}
 use Rattle.model.specs.Calls.{next_free}
-use Rattle.heads.specs.Headers.{Header, header, free_header}
+use Rattle.model.specs.Headers.{Header, header, free_header}
 use Rattle.tables.proofs.fills.chain_heads.Goals as goal
 use Rattle.tables.proofs.fills.chain_heads.Goals.{then-i-n, else-i-n}
 

@@ -1,7 +1,7 @@
 use Rattle.std.proofs.Common.{◌≡◌, map, take}
 use Rattle.std.specs.List.{range_with_len}
 use Rattle.model.specs.Calls.{next_free}
-use Rattle.heads.specs.Headers.{header, free_header}
+use Rattle.model.specs.Headers.{header, free_header}
 use Rattle.tables.proofs.fills.chain_heads.Given as goal
 
 abbrev pub invariant-loop-i : goal.invariant-loop-i

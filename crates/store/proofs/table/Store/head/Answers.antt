@@ -1,5 +1,5 @@
 use Rattle.std.proofs.Common.{◌-◌, sym, arith}
-use Rattle.heads.specs.Headers.{header, free_header}
+use Rattle.model.specs.Headers.{header, free_header}
 use Rattle.store.proofs.Views.{get_d_front}
 use Rattle.store.proofs.table.Store.head.Goals as goal
 

@@ -4,7 +4,7 @@ use Rattle.std.proofs.lemmas.List.{take_all, length-map, length-take-le}
 use Rattle.model.specs.Calls.{next_free}
 use Rattle.model.specs.Lawful.{Lawful}
 use Rattle.model.specs.State.{State}
-use Rattle.heads.specs.Headers.{header, free_header}
+use Rattle.model.specs.Headers.{header, free_header}
 use Rattle.model.proofs.NewStore.{lawful_new}
 use Rattle.tables.proofs.Fitting.{fitting, size_fitting, made_state}
 use Rattle.store.proofs.table.Store.new.Goals as goal

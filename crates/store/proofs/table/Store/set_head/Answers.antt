@@ -1,5 +1,5 @@
 use Rattle.std.proofs.Common.{◌-◌, List, refl, ap, arith, length-set}
-use Rattle.heads.specs.Headers.{Header, header}
+use Rattle.model.specs.Headers.{Header, header}
 use Rattle.model.specs.Walk.{Progress}
 use Rattle.store.specs.View.{view}
 use Rattle.store.proofs.Views.{set_front}

@@ -2,7 +2,7 @@ use mathlib.Core.Path.{◌≡◌, ap, sym, ◌∙◌}
 use mathlib.Core.Bool.{true}
 use native.Mathlib.Omega.{arith}
 use Rattle.model.specs.Collection.{restoring}
-use Rattle.heads.specs.Headers.{is_gray}
+use Rattle.model.specs.Headers.{is_gray}
 use Rattle.model.specs.Colouring.{Restoring, unblack, open_room, open_once}
 use Rattle.model.specs.Release.{at}
 use Rattle.model.proofs.Restores.{restoring_keeps, restoring_opens}

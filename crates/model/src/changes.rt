@@ -1,0 +1,118 @@
+// The changes of one head. Each is one step of a call or of a collection, and leaves every other part as it was. The clause
+// `lawful` says when what it leaves is a head: no more holds than its count, and each number within its width.
+ghost use Rattle.std.specs.Prelude.{◌<◌, ◌≡◌};
+ghost use Rattle.model.specs.Headers.{more_one, unlisted as unlisted_header, painted as painted_header, less_one, suspected as suspected_header, header, raised as raised_header, held_more, held_less};
+
+use crate::heads::{Colour, Head};
+
+impl Head {
+    // One hold more, for which the count has room.
+    pub fn held_more(self) -> Head
+        requires lawful { (self.holds < self.count) × (self.holds < 65535) }
+        ensures value { header result ≡ held_more (header self) }
+    {
+        Head {
+            used: self.used,
+            holds: self.holds + 1,
+            count: self.count,
+            colour: self.colour,
+            waiting: self.waiting,
+            next: self.next,
+        }
+    }
+
+    // One hold less.
+    pub fn held_less(self) -> Head
+        requires lawful { 0 < self.holds }
+        ensures value { header result ≡ held_less (header self) }
+    {
+        Head {
+            used: self.used,
+            holds: self.holds - 1,
+            count: self.count,
+            colour: self.colour,
+            waiting: self.waiting,
+            next: self.next,
+        }
+    }
+
+    // One reference more, colour kept.
+    pub fn more(self) -> Head
+        requires lawful { self.count < 4294967295 }
+        ensures value { header result ≡ more_one (header self) }
+    {
+        Head {
+            used: self.used,
+            holds: self.holds,
+            count: self.count + 1,
+            colour: self.colour,
+            waiting: self.waiting,
+            next: self.next,
+        }
+    }
+
+    // Raise: one reference more, and no longer suspected.
+    pub fn raised(self) -> Head
+        requires lawful { self.count < 4294967295 }
+        ensures value { header result ≡ raised_header (header self) }
+    {
+        self.more().painted(Colour::Black)
+    }
+
+    // One reference less, which is not one of the holds.
+    pub fn lessened(self) -> Head
+        requires lawful { self.holds < self.count }
+        ensures value { header result ≡ less_one (header self) }
+    {
+        Head {
+            used: self.used,
+            holds: self.holds,
+            count: self.count - 1,
+            colour: self.colour,
+            waiting: self.waiting,
+            next: self.next,
+        }
+    }
+
+    // Another colour.
+    pub fn painted(self, colour: Colour) -> Head
+        ensures value { header result ≡ painted_header colour (header self) }
+    {
+        Head {
+            used: self.used,
+            holds: self.holds,
+            count: self.count,
+            colour,
+            waiting: self.waiting,
+            next: self.next,
+        }
+    }
+
+    // Suspected of hanging in a dead ring, and waiting for a collection.
+    pub fn suspected(self) -> Head
+        ensures value { header result ≡ suspected_header (header self) }
+    {
+        Head {
+            used: self.used,
+            holds: self.holds,
+            count: self.count,
+            colour: Colour::Purple,
+            waiting: true,
+            next: self.next,
+        }
+    }
+
+    // No longer waiting for a collection.
+    pub fn unlisted(self) -> Head
+        ensures value { header result ≡ unlisted_header (header self) }
+    {
+        Head {
+            used: self.used,
+            holds: self.holds,
+            count: self.count,
+            colour: self.colour,
+            waiting: false,
+            next: self.next,
+        }
+    }
+}

@@ -1,0 +1,43 @@
+// Colours told apart.
+ghost use Rattle.std.specs.Prelude.{◌≡◌};
+ghost use Rattle.model.specs.Headers.{is_black as says_black, is_gray as says_gray, is_white as says_white, is_purple as says_purple};
+
+use crate::heads::Colour;
+
+impl Colour {
+    pub fn is_black(self) -> bool
+        ensures value { result ≡ says_black self }
+    {
+        match self {
+            Colour::Black => true,
+            _ => false,
+        }
+    }
+
+    pub fn is_gray(self) -> bool
+        ensures value { result ≡ says_gray self }
+    {
+        match self {
+            Colour::Gray => true,
+            _ => false,
+        }
+    }
+
+    pub fn is_white(self) -> bool
+        ensures value { result ≡ says_white self }
+    {
+        match self {
+            Colour::White => true,
+            _ => false,
+        }
+    }
+
+    pub fn is_purple(self) -> bool
+        ensures value { result ≡ says_purple self }
+    {
+        match self {
+            Colour::Purple => true,
+            _ => false,
+        }
+    }
+}
