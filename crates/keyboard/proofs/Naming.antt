@@ -5,10 +5,10 @@ use Rattle.std.specs.Str.{bytes_eq}
 use Rattle.std.proofs.lemmas.Slice.Eq.{HasBytesAt, text_from_reads, bytes_eq-Decides}
 use Rattle.std.proofs.lemmas.Bool.{cases_Bool}
 use Rattle.std.proofs.lemmas.Bool.Decides.{nat_tests}
-use Rattle.forms.specs.declared.Form.{Form}
-use Rattle.forms.specs.declared.Form.TheVariants.{Make, Hold, Load, Link, Byte, Look, Drop, Collect, Tally}
+use Rattle.keyboard.specs.declared.forms.Form.{Form}
+use Rattle.keyboard.specs.declared.forms.Form.TheVariants.{Make, Hold, Load, Link, Byte, Look, Drop, Tally}
 use Rattle.keyboard.specs.Lines.{form}
-use Rattle.forms.specs.Names.{name_of, Reads, Names, Nameless}
+use Rattle.keyboard.specs.Names.{name_of, Reads, Names, Nameless}
 
 reads_at : (w : List ℕ) (i : ℕ) (p : List ℕ) → Reads w i p → HasBytesAt w i p
 reads_at w i [] h = tt
@@ -25,7 +25,6 @@ names_own Link = search
 names_own Byte = search
 names_own Look = search
 names_own Drop = search
-names_own Collect = search
 names_own Tally = search
 
 unlike : (w : List ℕ) (f : Form) → (Names w f → ⊥) → bytes_eq w (name_of f) ≡ false
@@ -45,8 +44,7 @@ nameless w ws h =
       unlike w Byte h.4,
       unlike w Look h.5,
       unlike w Drop h.6,
-      unlike w Collect h.7,
-      unlike w Tally h.8,
+      unlike w Tally h.7,
     )
 
 -- the words `all` begin with a word that names the form r, or no form

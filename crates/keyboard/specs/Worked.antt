@@ -2,11 +2,11 @@
 use Rattle.std.specs.Prelude.{◌≡◌, ℕ, List, [], ◌∷◌, ◌++◌, replicate, Some, None, codes, Option}
 use Rattle.std.specs.List.{AllByRecursion as All}
 use Rattle.model.specs.declared.calls.Call.{Call}
-use Rattle.model.specs.declared.calls.Call.TheVariants.{Make, Hold, Load, Link, Byte, Look, Drop, Collect, Tally}
+use Rattle.model.specs.declared.calls.Call.TheVariants.{Make, Hold, Load, Link, Byte, Look, Drop, Tally}
 use Rattle.model.specs.declared.calls.Reply.{Reply}
 use Rattle.model.specs.declared.calls.Reply.TheVariants.{Number, Nothing, Done, Refused}
 use Rattle.model.specs.declared.refusals.Refusal.TheVariants.{NotHeld, BadLine}
-use Rattle.answers.specs.Answers.{answer_line, line_feed}
+use Rattle.keyboard.specs.Answers.{answer_line, line_feed}
 use Rattle.keyboard.specs.Lines.{meaning}
 
 -- lines, each with the call that it means
@@ -14,7 +14,6 @@ abbrev pub lines : List (List ℕ × Option Call)
 lines =
     (codes "make", Some Make)
     ∷ (codes "tally", Some Tally)
-    ∷ (codes "collect", Some Collect)
     ∷ (codes "hold 17", Some (Hold 17))
     ∷ (codes "hold 0", Some (Hold 0))
     ∷ (codes "hold 65537", Some (Hold 65537))
@@ -31,7 +30,6 @@ lines =
     -- a word too few, a word too many, a number in place of a command
     ∷ (codes "hold", None)
     ∷ (codes "make 1", None)
-    ∷ (codes "collect 1", None)
     ∷ (codes "1", None)
     -- no byte, a space in front, two in a row, one at the end
     ∷ (codes "", None)

@@ -1,22 +1,12 @@
 // From a line to the call that it means.
-ghost use Rattle.std.specs.Prelude.{◌≡◌, ◌∷◌, None, MatchOption};
-ghost use Rattle.forms.specs.Names.{name_of};
+ghost use Rattle.std.specs.Prelude.{◌≡◌, ◌∷◌};
 ghost use Rattle.keyboard.specs.Lines.{alone as value_alone, byte_call as call_of_byte, one as one_number, two as two_numbers, three as three_numbers, form, meaning};
-ghost use Rattle.words.specs.Splits.{left};
+ghost use Rattle.keyboard.specs.Splits.{left};
+ghost use Rattle.keyboard.specs.Names.{name_of};
 
-use forms::Form;
+use crate::forms::Form;
+use crate::words::Words;
 use model::calls::Call;
-use words::{Word, Words};
-
-// The form whose command word comes next. None where the next word is the command word of no form.
-fn next_form(words: &mut Words<'_>) -> Option<Form>
-    ensures value { MatchOption result (form (left words.old) ≡ None) (λ f. left words.old ≡ name_of f ∷ left words.new) }
-{
-    match words.next()? {
-        Word::Command(name) => Form::named(name),
-        Word::Digits(_) => None,
-    }
-}
 
 // The value, where no word is left. None where a word is too many.
 fn alone<T: Copy>(value: T, mut words: Words<'_>) -> Option<T>
@@ -88,7 +78,6 @@ fn call(kind: Form, words: Words<'_>) -> Option<Call>
             Some(Call::Look(record, byte))
         }
         Form::Drop => Some(Call::Drop(one(words)?)),
-        Form::Collect => alone(Call::Collect, words),
         Form::Tally => alone(Call::Tally, words),
     }
 }
@@ -101,6 +90,6 @@ pub fn command(line: &[u8]) -> Option<Call>
         return None;
     }
     let mut words = Words::new(line);
-    let kind = next_form(&mut words)?;
+    let kind = words.form()?;
     call(kind, words)
 }

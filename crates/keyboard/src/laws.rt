@@ -1,13 +1,22 @@
 // Theorems on lines and answers. Each public function stands for one, and answers the number in it.
 ghost use Rattle.std.specs.Prelude.{◌≡◌, ◌+◌, length};
-ghost use Rattle.keyboard.specs.Laws.{Suffices};
+ghost use Rattle.keyboard.specs.Laws.{DecimalsBelow, Suffices};
 ghost use Rattle.keyboard.specs.Worked.{lines, answers, LinesRight, AnswersRight};
 
 // What is proved by hand of them.
 fn theorems()
+    ensures decimals { DecimalsBelow 100000 }
     ensures suffices { Suffices 81 }
     ensures answers { AnswersRight }
 {}
+
+// The numerals are exactly the decimals of the numbers below this one.
+pub fn number_limit() -> usize
+    ensures law { DecimalsBelow result }
+{
+    theorems();
+    100000
+}
 
 // It suffices to keep so many bytes of a line.
 pub fn kept_bytes() -> usize
@@ -24,5 +33,5 @@ pub fn worked_examples() -> usize
     ensures count { result ≡ length lines + length answers }
 {
     theorems();
-    35
+    33
 }

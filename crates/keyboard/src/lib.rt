@@ -1,5 +1,13 @@
-// From the bytes of a line to a call.
+// From the bytes of a line to a call, and from an answer to bytes.
+mod answers;
 mod commands;
+mod forms;
 pub mod laws;
+mod lines;
+mod numbers;
+mod words;
 
+pub use answers::Answer;
+pub use answers::writing::answer;
 pub use commands::command;
+pub use lines::Line;

@@ -1,7 +1,6 @@
 -- What a call answers where its tests come out so or so.
-use Rattle.std.proofs.Common.{◌≡◌, ℕ, zero, suc, ◌+◌, ◌<◌, ◌≤◌, Bool, true, false, cond, not, ◌&&◌, eqb, ltb, leb, length, sym, refl, ap, ◌∙◌, arith}
-use Rattle.std.proofs.lemmas.Bool.{cond-true, cond-false, ne_eqb, eq-eqb, le-leb, lt-leb, lt-ltb, le-ltb, and_right}
-use Rattle.kinds.specs.Rows.{Shape}
+use Rattle.std.proofs.Common.{◌≡◌, ℕ, ◌<◌, ◌≤◌, Bool, true, false, not, ◌&&◌, eqb, ltb, leb, length, sym, refl, ap, ◌∙◌, arith}
+use Rattle.std.proofs.lemmas.Bool.{cond-true, cond-false, ne_eqb, le-leb, lt-leb, lt-ltb, le-ltb, and_right}
 use Rattle.model.specs.State.{State, head, with_head}
 use Rattle.model.specs.Headers.{raised, held_more}
 use Rattle.model.specs.Calls.{Answered, refused, is_held, asked, taken, make, hold_more}

@@ -2,15 +2,15 @@
 use Rattle.std.proofs.Common.{◌≡◌, ℕ, zero, suc, ◌+◌, ◌-◌, ◌<◌, ◌≤◌, Bool, true, false, cond, eqb, ◌≢◌, ◌⊎◌, List, [], ◌∷◌, ◌++◌, map, length, get_or, set, sum_by, count_by, sym, refl, ap, ◌∙◌, subst, inl, inr, ⊎_elim, arith}
 use Rattle.std.proofs.lemmas.List.{get_or-set_same, get_or-set_other}
 use Rattle.std.proofs.lemmas.List.Sums.{sum_by-cons, sum_by-set}
-use Rattle.std.proofs.lemmas.Bool.{cases_eq, cases_Bool, cond-true, cond-false, eq-eqb, ne_eqb, eqb-true}
+use Rattle.std.proofs.lemmas.Bool.{cases_eq, cond-true, cond-false, eq-eqb, ne_eqb, eqb-true}
 use Rattle.kinds.specs.Rows.{Row}
-use Rattle.model.specs.State.{State, Within, head, row, no_row, with_head}
+use Rattle.model.specs.State.{State, Within, head, no_row, with_head}
 use Rattle.model.specs.Headers.{Header, free_header}
-use Rattle.model.specs.Lawful.{Links, Used, naming, named, once}
-use Rattle.model.specs.Walk.{Progress, Task, Absent}
+use Rattle.model.specs.Lawful.{naming, once}
+use Rattle.model.specs.Walk.{Task, Absent}
 use Rattle.model.specs.Walk.Task.{follow, visit, leave}
-use Rattle.model.specs.Colouring.{naming_where, named_where, due, Queue, Orderly, open_room, open_once}
-use Rattle.model.proofs.Counting.{naming_cons, naming_same, naming_other}
+use Rattle.model.specs.Colouring.{naming_where, due, Queue, Orderly}
+use Rattle.model.proofs.Counting.{naming_cons}
 
 -- a list that names t has it
 pub naming_some : (t : ℕ) (us : List ℕ) → 0 < naming t us → (i : ℕ) × (get_or us i 0 ≡ t)

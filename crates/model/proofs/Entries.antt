@@ -1,12 +1,8 @@
 -- A walk enters no record twice, and the other laws of every walk; and release is such a walk.
-use Rattle.std.proofs.Common.{◌≡◌, ℕ, zero, suc, ◌+◌, ◌-◌, ◌<◌, ◌≤◌, Bool, true, false, cond, eqb, ◌≢◌, List, [], ◌∷◌, ◌++◌, map, length, get_or, set, sym, refl, ap, ◌∙◌, subst, ⊎_elim, arith}
-use Rattle.std.proofs.lemmas.List.{get_or-set_same, get_or-set_other}
-use Rattle.std.proofs.lemmas.Bool.{cases_Bool, cases_eq, ne_eqb, eq-eqb}
-use Rattle.kinds.specs.Rows.{Shape, blank}
-use Rattle.model.specs.State.{State, head, row}
-use Rattle.model.specs.Headers.{Header, free_header}
-use Rattle.model.specs.Lawful.{naming, once}
-use Rattle.model.specs.Walk.{Progress, Rule, runs, walk, full, Task, Keeps}
+use Rattle.std.proofs.Common.{◌≡◌, ℕ, zero, suc, ◌+◌, ◌<◌, ◌≤◌, true, false, ◌≢◌, List, [], ◌∷◌, ◌++◌, map, length, sym, refl, ap, subst, ⊎_elim, arith}
+use Rattle.std.proofs.lemmas.Bool.{cases_Bool, cases_eq, ne_eqb}
+use Rattle.model.specs.Lawful.{naming}
+use Rattle.model.specs.Walk.{Progress, Rule, runs, walk, Task, Keeps}
 use Rattle.model.specs.Walk.Task.{follow, visit, leave}
 use Rattle.model.specs.Entering.{along, entered, Laws, Opens}
 use Rattle.model.proofs.Counting.{naming_cons}

@@ -1,21 +1,21 @@
 -- Every history of calls: one induction over the list of calls.
-use Rattle.std.proofs.Common.{◌≡◌, ℕ, zero, suc, ◌+◌, ◌-◌, ◌<◌, ◌≤◌, min, Bool, true, false, cond, not, ◌&&◌, ◌||◌, eqb, ltb, leb, ◌≢◌, ◌⊎◌, List, [], ◌∷◌, ◌++◌, map, length, get_or, take, set, replicate, fold, count_by, sym, refl, ap, ◌∙◌, subst, inl, inr, ⊎_elim, arith}
-use Rattle.std.proofs.lemmas.List.{length-set, length-replicate, get_or-replicate, get_or-set_same, get_or-set_other, map-append}
+use Rattle.std.proofs.Common.{◌≡◌, ℕ, zero, suc, ◌+◌, ◌-◌, ◌<◌, ◌≤◌, min, Bool, true, false, cond, ◌&&◌, ◌||◌, eqb, ltb, ◌≢◌, ◌⊎◌, List, [], ◌∷◌, ◌++◌, map, length, get_or, take, set, fold, sym, refl, ap, ◌∙◌, subst, inl, inr, arith}
+use Rattle.std.proofs.lemmas.List.{length-set, length-replicate, get_or-replicate, map-append}
 use Rattle.std.proofs.lemmas.List.Sums.{sum_by-cons, sum_by-set, fold_push}
-use Rattle.std.proofs.lemmas.Bool.{both_ways, true≢false, false≢true, cond_both, and_parts, not-true, eqb-false, leb-true, ltb-true, cases_eq}
+use Rattle.std.proofs.lemmas.Bool.{false≢true, cond_both, eqb-false, ltb-true}
 use Rattle.kinds.specs.Rows.{Row, Shape, blank, with_link, with_byte}
 use Rattle.model.specs.State.{State, Within, head, row, no_row, in_use, with_head, with_row, with_front}
 use Rattle.model.specs.Headers.{Header, free_header, made_header, raised, held_more, held_less}
-use Rattle.model.specs.Calls.{Answered, Played, refused, is_held, asked, taken, make, hold, hold_more, hold_answer, load, load_answer, started, raised_at, relinked, link, link_answer, byte, byte_answer, look, look_answer, drop, drop_answer, collect, answered, new, played}
-use Rattle.model.specs.Lawful.{Lawful, Used, Held, Links, Chain, naming, once}
+use Rattle.model.specs.Calls.{Answered, refused, is_held, make, hold, hold_more, hold_answer, load, load_answer, started, raised_at, relinked, link, link_answer, byte, byte_answer, look, look_answer, drop, drop_answer, collect, answered, new, played}
+use Rattle.model.specs.Lawful.{Lawful, Used, Held, Links, once}
 use Rattle.model.specs.Release.{lower}
 use Rattle.model.specs.Collection.{collected}
 use Rattle.model.specs.Walk.{Progress}
-use Rattle.model.specs.History.{Event, Entry, Ledger, entry, no_entry, empty_ledger, one_more, one_less, linked, byte_written, noted, ledger, made_by, given_by, makes, give_ups, is_collect, ends_in_collection, in_play, Live, Promises, After, GoesOn, events, then}
+use Rattle.model.specs.History.{Event, Entry, Ledger, entry, no_entry, empty_ledger, one_more, one_less, linked, noted, ledger, made_by, given_by, makes, give_ups, is_collect, ends_in_collection, in_play, Live, Promises, After, GoesOn, events, then}
 use Rattle.model.specs.declared.calls.Call.{Call}
 use Rattle.model.specs.declared.calls.Call.TheVariants.{Make, Hold, Load, Link, Byte, Look, Drop, Collect, Tally}
 use Rattle.model.specs.declared.calls.Reply.{Reply}
-use Rattle.model.specs.declared.calls.Reply.TheVariants.{Number, Nothing, Done, Refused}
+use Rattle.model.specs.declared.calls.Reply.TheVariants.{Number}
 use Rattle.model.specs.declared.refusals.Refusal.{Refusal}
 use Rattle.model.specs.declared.refusals.Refusal.TheVariants.{Full, NotHeld, NoSuchField, TooManyHolds}
 use Rattle.model.proofs.Places.{each_set, each_head, each_both}

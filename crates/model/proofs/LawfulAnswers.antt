@@ -1,12 +1,12 @@
 -- Every call leaves a lawful store lawful.
-use Rattle.std.proofs.Common.{◌≡◌, ℕ, zero, suc, ◌+◌, ◌-◌, ◌<◌, ◌≤◌, Bool, true, false, cond, not, ◌&&◌, ◌||◌, eqb, ltb, ◌≢◌, ◌⊎◌, List, [], ◌∷◌, length, get_or, set, sym, refl, ap, ◌∙◌, subst, inl, inr, ⊎_elim, arith}
+use Rattle.std.proofs.Common.{◌≡◌, ℕ, zero, suc, ◌+◌, ◌-◌, ◌<◌, ◌≤◌, Bool, true, false, ◌&&◌, ◌||◌, eqb, ltb, ◌⊎◌, [], ◌∷◌, get_or, set, refl, inl, inr, arith}
 use Rattle.std.proofs.lemmas.List.{length-set, get_or-set_same, get_or-set_other}
 use Rattle.std.proofs.lemmas.List.Sums.{count_by-le-length}
 use Rattle.std.proofs.lemmas.Bool.{cond_both, eqb-true, eqb-false, ltb-true, and_parts, or_cases}
 use Rattle.kinds.specs.Rows.{Shape}
-use Rattle.model.specs.State.{State, Within, head, row, with_head}
-use Rattle.model.specs.Headers.{Header, free_header, raised, held_less}
-use Rattle.model.specs.Calls.{Answered, refused, is_held, asked, make, hold, hold_more, hold_answer, load_link, load_answer, started, raised_at, relinked, link_answer, byte_answer, look_answer, drop_answer, answered}
+use Rattle.model.specs.State.{State, head, row, with_head}
+use Rattle.model.specs.Headers.{free_header, raised, held_less}
+use Rattle.model.specs.Calls.{Answered, refused, is_held, asked, make, hold_more, hold_answer, load_link, load_answer, started, raised_at, relinked, link_answer, byte_answer, look_answer, drop_answer, answered}
 use Rattle.model.specs.Lawful.{Lawful, Used, Held}
 use Rattle.model.specs.Releasing.{Releasing}
 use Rattle.model.specs.Collection.{collected}
@@ -17,7 +17,7 @@ use Rattle.model.specs.declared.calls.Call.TheVariants.{Make, Hold, Load, Link, 
 use Rattle.model.specs.declared.refusals.Refusal.TheVariants.{NotHeld, NoSuchField}
 use Rattle.model.proofs.LawfulCalls.{held_used, held_from_test, front_free, lawful_taken, lawful_held_more, lawful_byte}
 use Rattle.model.proofs.Lowering.{lawful_lower}
-use Rattle.model.proofs.Owing.{Lifted, owing_drop, owing_link}
+use Rattle.model.proofs.Owing.{owing_drop, owing_link}
 use Rattle.model.proofs.Collections.{collection_law}
 
 -- the three ways out of a question

@@ -1,16 +1,15 @@
 -- Each call leaves a lawful store lawful.
-use Rattle.std.proofs.Common.{◌≡◌, ℕ, zero, suc, ◌+◌, ◌-◌, ◌<◌, ◌≤◌, Bool, true, false, cond, not, ◌&&◌, eqb, ltb, leb, ◌≢◌, ◌⊎◌, List, [], ◌∷◌, length, get_or, set, sym, refl, ap, ◌∙◌, subst, inl, inr, ⊎_elim, mul-le-mul_right, arith}
+use Rattle.std.proofs.Common.{◌≡◌, ℕ, zero, suc, ◌+◌, ◌-◌, ◌<◌, ◌≤◌, Bool, true, false, not, ◌&&◌, eqb, ltb, leb, ◌≢◌, ◌⊎◌, List, [], ◌∷◌, length, get_or, set, sym, refl, ap, ◌∙◌, subst, inl, inr, ⊎_elim, mul-le-mul_right, arith}
 use Rattle.std.proofs.lemmas.List.{length-set, get_or-set_same, get_or-set_other}
-use Rattle.std.proofs.lemmas.Bool.{cases_eq, both_ways, true≢false, cond_both, and_parts, not-true, eqb-false, leb-true, ltb-true}
+use Rattle.std.proofs.lemmas.Bool.{cases_eq, both_ways, true≢false, and_parts, not-true, leb-true, ltb-true}
 use Rattle.std.proofs.lemmas.List.Sums.{count_by-le-length}
 use Rattle.std.proofs.ByRecursion.{sum_by_le, All-from_get_or}
-use Rattle.kinds.specs.Rows.{Row, Shape, Bounded, blank, with_byte}
+use Rattle.kinds.specs.Rows.{Shape, Bounded, with_byte}
 use Rattle.model.specs.State.{State, Within, head, row, no_row, with_head, with_row, with_front}
 use Rattle.model.specs.Headers.{Header, free_header, made_header, raised, held_more}
 use Rattle.model.specs.Calls.{is_held, taken}
 use Rattle.model.specs.Lawful.{Lawful, Proper, From, Used, Held, Links, Reachable, Spent, Candidate, Chain, naming, named, once}
-use Rattle.model.specs.Lawful.From.{here, along}
-use Rattle.model.specs.declared.heads.Colour.TheVariants.{Black, Purple}
+use Rattle.model.specs.Lawful.From.{here}
 use Rattle.model.proofs.Places.{each_head, each_row, head_there, head_elsewhere}
 use Rattle.model.proofs.Paths.{from_more, from_either}
 use Rattle.model.proofs.Counting.{naming_same, naming_other, named_with_row}

@@ -1,13 +1,13 @@
 -- A store that agrees with the ledger keeps the promises.
-use Rattle.std.proofs.Common.{◌≡◌, ℕ, zero, suc, ◌+◌, ◌-◌, ◌<◌, ◌≤◌, Bool, true, false, cond, not, ◌&&◌, eqb, ◌≢◌, ◌⊎◌, List, [], ◌∷◌, length, get_or, set, sum_by, sym, refl, ap, ◌∙◌, subst, inl, inr, ⊎_elim, sub-one, arith}
+use Rattle.std.proofs.Common.{◌≡◌, ℕ, zero, suc, ◌+◌, ◌-◌, ◌<◌, ◌≤◌, Bool, true, false, cond, not, eqb, List, [], ◌∷◌, length, get_or, sum_by, sym, refl, ap, ◌∙◌, subst, arith}
 use Rattle.std.proofs.lemmas.List.Sums.{sum_by-cons}
-use Rattle.std.proofs.lemmas.Bool.{both_ways, true≢false, and_from, and_parts, ne_eqb, eqb-true, not-true, cond-true, cond-false}
+use Rattle.std.proofs.lemmas.Bool.{both_ways, true≢false, and_from, and_parts, ne_eqb, not-true, cond-true, cond-false}
 use Rattle.kinds.specs.Rows.{Row, Shape, blank}
 use Rattle.model.specs.State.{State, Within, head, row, no_row}
 use Rattle.model.specs.Headers.{Header, free_header}
-use Rattle.model.specs.Lawful.{Lawful, From, Used, Reachable, naming, named}
+use Rattle.model.specs.Lawful.{Lawful, Used, Reachable, naming, named}
 use Rattle.model.specs.Lawful.From.{here, along}
-use Rattle.model.specs.History.{Entry, Ledger, entry, no_entry, in_play, tied_among, tied_in, Handed, Tied, Live}
+use Rattle.model.specs.History.{Ledger, entry, no_entry, in_play, tied_among, tied_in, Live}
 use Rattle.model.proofs.Counting.{naming_blank, naming_has, naming_le_named}
 use Rattle.model.proofs.LawfulCalls.{held_used}
 

@@ -1,9 +1,9 @@
 -- The links of the records that have a count, and those still to be lowered.
-use Rattle.std.proofs.Common.{◌≡◌, ℕ, zero, suc, ◌+◌, ◌-◌, ◌<◌, ◌≤◌, Bool, true, false, cond, eqb, ◌≢◌, List, [], ◌∷◌, ◌++◌, map, length, get_or, set, sum_by, sym, refl, ap, ◌∙◌, subst, arith}
+use Rattle.std.proofs.Common.{◌≡◌, ℕ, zero, suc, ◌+◌, ◌<◌, ◌≤◌, Bool, true, false, cond, eqb, ◌≢◌, List, [], ◌∷◌, ◌++◌, map, length, get_or, set, sum_by, sym, refl, ap, ◌∙◌, arith}
 use Rattle.std.proofs.lemmas.List.Sums.{sum_by-cons}
 use Rattle.std.proofs.lemmas.Bool.{cond-true, cond-false, eq-eqb, ne_eqb}
 use Rattle.kinds.specs.Rows.{Row}
-use Rattle.model.specs.State.{State, head, row, no_row}
+use Rattle.model.specs.State.{State, no_row}
 use Rattle.model.specs.Headers.{Header, free_header}
 use Rattle.model.specs.Lawful.{naming, once}
 use Rattle.model.specs.Releasing.{naming_live, pending, Calm, Busy}

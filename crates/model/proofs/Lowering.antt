@@ -1,20 +1,17 @@
 -- A release from its start to its end: from a lawful store that owes one reference to a lawful store.
-use Rattle.std.proofs.Common.{◌≡◌, ℕ, zero, suc, ◌+◌, ◌-◌, ◌<◌, ◌≤◌, Bool, true, false, cond, not, ◌&&◌, eqb, ◌≢◌, ◌⊎◌, List, [], ◌∷◌, ◌++◌, map, length, get_or, set, sym, refl, ap, ◌∙◌, subst, inl, inr, ⊎_elim, arith}
-use Rattle.std.proofs.lemmas.List.{length-set}
-use Rattle.std.proofs.lemmas.List.Sums.{sum_by-set}
-use Rattle.std.proofs.lemmas.Bool.{cases_eq, cases_Bool, both_ways, true≢false, cond-true, cond-false, eqb-true, eqb-false, eq-eqb, ne_eqb}
-use Rattle.kinds.specs.Rows.{Row, Shape, blank}
-use Rattle.model.specs.State.{State, Within, head, row, no_row, in_use, with_head, with_row, with_front}
-use Rattle.model.specs.Headers.{Header, free_header, less_one}
-use Rattle.model.specs.Lawful.{Lawful, Proper, Settled, Coloured, Resting, From, Used, Held, Links, Reachable, Spent, Candidate, Chain, naming, named, once}
-use Rattle.model.specs.Walk.{Progress, Task, Turned, walk, full}
-use Rattle.model.specs.Walk.Task.{follow, visit, leave}
-use Rattle.model.specs.Release.{at, moved, turn, releasing, lower}
-use Rattle.model.specs.Releasing.{live_named, naming_live, pending, Start, LiveLink, Releasing, Tidy, counted_room}
-use Rattle.model.proofs.Places.{each_head, each_both, head_there, head_elsewhere}
-use Rattle.model.proofs.Paths.{from_more, from_either, from_inside}
+use Rattle.std.proofs.Common.{◌≡◌, ℕ, zero, suc, ◌+◌, ◌-◌, ◌<◌, ◌≤◌, Bool, true, false, eqb, ◌≢◌, ◌⊎◌, [], ◌∷◌, length, get_or, sym, refl, ap, ◌∙◌, subst, inl, inr, ⊎_elim, arith}
+use Rattle.std.proofs.lemmas.Bool.{cases_eq, eqb-true, ne_eqb}
+use Rattle.kinds.specs.Rows.{Shape, blank}
+use Rattle.model.specs.State.{State, Within, head, row, no_row}
+use Rattle.model.specs.Headers.{free_header}
+use Rattle.model.specs.Lawful.{Lawful, From, Used, Held, Links, Reachable, Spent, Candidate, naming, named}
+use Rattle.model.specs.Walk.{Progress, full}
+use Rattle.model.specs.Walk.Task.{follow, visit}
+use Rattle.model.specs.Release.{releasing, lower}
+use Rattle.model.specs.Releasing.{live_named, Start, Releasing, counted_room}
+use Rattle.model.proofs.Paths.{from_more, from_either}
 use Rattle.model.proofs.Counting.{naming_blank, naming_has}
-use Rattle.model.proofs.LiveCounting.{live_le, live_all, live_same, pending_hit, pending_miss}
+use Rattle.model.proofs.LiveCounting.{live_le, live_all}
 use Rattle.model.proofs.Releases.{counted_used, release_keeps}
 use Rattle.model.proofs.Walks.{walk_keeps}
 

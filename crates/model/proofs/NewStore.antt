@@ -1,16 +1,15 @@
 -- A new store is lawful.
-use Rattle.std.proofs.Common.{◌≡◌, ℕ, zero, suc, ◌+◌, ◌-◌, ◌<◌, ◌≤◌, min, Bool, true, false, cond, eqb, ltb, List, [], ◌∷◌, map, length, get_or, replicate, sum_by, count_by, sym, refl, ap, ◌∙◌, subst, inl, ⊎_elim, add-one, arith}
+use Rattle.std.proofs.Common.{◌≡◌, ℕ, zero, suc, ◌+◌, ◌-◌, ◌<◌, ◌≤◌, min, cond, ltb, List, [], ◌∷◌, map, length, replicate, sum_by, count_by, sym, refl, ap, ◌∙◌, subst, inl, ⊎_elim, arith}
 use Rattle.std.specs.List.{range_with_len}
 use Rattle.std.proofs.lemmas.List.FromFn.{get_or-map-range_with_len, length-map-range_with_len}
 use Rattle.std.proofs.lemmas.List.{length-replicate, get_or-replicate}
 use Rattle.std.proofs.lemmas.List.Sums.{sum_by-cons}
 use Rattle.std.proofs.lemmas.Bool.{false≢true, cond-true, cond-false, lt-ltb, le-ltb, cases_eq}
-use Rattle.kinds.specs.Rows.{Row, Shape, blank}
-use Rattle.model.specs.State.{State, Within, head, row, no_row, in_use}
-use Rattle.model.specs.Headers.{Header, free_header}
+use Rattle.kinds.specs.Rows.{Shape, blank}
+use Rattle.model.specs.State.{Within, head, row, no_row, in_use}
+use Rattle.model.specs.Headers.{free_header}
 use Rattle.model.specs.Calls.{new, next_free}
-use Rattle.model.specs.Lawful.{Lawful, Proper, Chain, Used, Links, naming, named, once}
-use Rattle.model.specs.declared.heads.Colour.TheVariants.{Black}
+use Rattle.model.specs.Lawful.{Lawful, Proper, Chain, Links, naming, once}
 use Rattle.model.proofs.Counting.{naming_same, naming_other, naming_blank, naming_has}
 
 -- nothing is named by blank rows, and nothing in use among free heads

@@ -1,21 +1,21 @@
 -- The stores from which a release begins: a lawful store but for one reference that is still counted.
-use Rattle.std.proofs.Common.{◌≡◌, ℕ, zero, suc, ◌+◌, ◌-◌, ◌<◌, ◌≤◌, Bool, true, false, cond, not, eqb, ◌≢◌, ◌⊎◌, List, [], ◌∷◌, length, get_or, set, sym, refl, ap, ◌∙◌, subst, inl, inr, ⊎_elim, arith}
-use Rattle.std.proofs.lemmas.List.{length-set, get_or-set_same, get_or-set_other, get_or_past}
+use Rattle.std.proofs.Common.{◌≡◌, ℕ, zero, suc, ◌+◌, ◌-◌, ◌<◌, ◌≤◌, true, cond, eqb, ◌≢◌, ◌⊎◌, List, [], ◌∷◌, length, get_or, set, sym, refl, ap, ◌∙◌, subst, inl, inr, ⊎_elim, arith}
+use Rattle.std.proofs.lemmas.List.{length-set, get_or-set_same, get_or-set_other}
 use Rattle.std.proofs.lemmas.List.Sums.{sum_by-set}
-use Rattle.std.proofs.lemmas.Bool.{cases_eq, cases_lt, both_ways, true≢false, cond-true, cond-false, eqb-true, eq-eqb, ne_eqb}
+use Rattle.std.proofs.lemmas.Bool.{cases_eq, both_ways, eqb-true, eq-eqb, ne_eqb}
 use Rattle.kinds.specs.Rows.{Row, Shape, blank, with_link}
-use Rattle.model.specs.State.{State, Within, head, row, no_row, with_head, with_row}
+use Rattle.model.specs.State.{State, Within, head, row, no_row, with_head}
 use Rattle.model.specs.Headers.{Header, free_header, raised, held_less}
-use Rattle.model.specs.Calls.{started, raised_at, relinked}
-use Rattle.model.specs.Lawful.{Lawful, Proper, Settled, Coloured, Resting, From, Used, Held, Links, Reachable, Spent, Candidate, Chain, naming, named, once}
+use Rattle.model.specs.Calls.{started}
+use Rattle.model.specs.Lawful.{Lawful, Settled, Coloured, Resting, From, Used, Held, Links, Candidate, Chain, naming, named, once}
 use Rattle.model.specs.Lawful.From.{here}
-use Rattle.model.specs.Walk.{Progress, Task}
+use Rattle.model.specs.Walk.{Task}
 use Rattle.model.specs.Walk.Task.{follow}
 use Rattle.model.specs.Releasing.{live_named, pending, Start, LiveLink, Busy, Releasing}
-use Rattle.model.specs.declared.heads.Colour.TheVariants.{Black, Purple}
-use Rattle.model.proofs.Places.{each_head, each_row, head_there, head_elsewhere}
+use Rattle.model.specs.declared.heads.Colour.TheVariants.{Purple}
+use Rattle.model.proofs.Places.{each_head, each_row, head_elsewhere}
 use Rattle.model.proofs.Paths.{from_inside}
-use Rattle.model.proofs.Counting.{naming_blank, naming_has, named_with_row}
+use Rattle.model.proofs.Counting.{naming_blank, named_with_row}
 use Rattle.model.proofs.LiveCounting.{live_same, live_all, pending_hit, pending_miss}
 use Rattle.model.proofs.LawfulCalls.{held_used, chain_elsewhere}
 use Rattle.model.proofs.Releases.{counted_used}

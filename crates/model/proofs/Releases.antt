@@ -1,23 +1,21 @@
 -- Each step of a release keeps what holds during one.
 use Rattle.std.proofs.Common.{◌≡◌, ℕ, zero, suc, ◌+◌, ◌-◌, ◌*◌, ◌<◌, ◌≤◌, Bool, true, false, cond, not, eqb, ◌≢◌, ◌⊎◌, List, [], ◌∷◌, ◌++◌, map, length, get_or, set, count_by, sym, refl, ap, ◌∙◌, subst, inl, inr, ⊎_elim, one-mul, mul-zero, zero-mul, arith}
-use Rattle.std.proofs.lemmas.List.{length-replicate, length-set, get_or-set_same, get_or-set_other, set-get_or, get_or_past}
+use Rattle.std.proofs.lemmas.List.{length-replicate, length-set, set-get_or}
 use Rattle.std.proofs.lemmas.List.Sums.{sum_by-cons, sum_by-set, sum_by-append, count_by-le-length, get_or-le-sum_by}
-use Rattle.std.proofs.lemmas.Bool.{cases_eq, cases_Bool, cases_lt, both_ways, true≢false, cond-true, cond-false, eqb-true, eqb-false, eq-eqb, ne_eqb}
+use Rattle.std.proofs.lemmas.Bool.{cases_eq, both_ways, true≢false, cond-true, cond-false, eqb-true, eq-eqb, ne_eqb}
 use Rattle.kinds.specs.Rows.{Row, Shape, blank}
 use Rattle.model.specs.State.{State, Within, head, row, in_use, with_head, with_candidates}
 use Rattle.model.specs.Headers.{Header, free_header, painted, less_one, suspected, is_purple}
-use Rattle.model.specs.Lawful.{From, Held, Links, Candidate, Chain, Settled, Coloured, Resting, naming, once}
-use Rattle.model.specs.Lawful.From.{here, along}
+use Rattle.model.specs.Lawful.{From, Links, Candidate, Chain, Settled, Coloured, Resting, naming, once}
 use Rattle.model.specs.Walk.{Progress, Task, Absent, Turned, Left, Keeps}
 use Rattle.model.specs.Walk.Task.{follow, visit, leave}
 use Rattle.model.specs.Release.{at, moved, turn, suspect, spent, given_up, released, releasing, listed_too}
-use Rattle.model.specs.Releasing.{live_named, naming_live, pending, Visiting, Ending, Calm, Tidy, Busy, Next, Start, LiveLink, Releasing, visited_ended, counted_room}
-use Rattle.model.specs.declared.heads.Colour.{Colour}
-use Rattle.model.specs.declared.heads.Colour.TheVariants.{Black, Gray, White, Purple}
+use Rattle.model.specs.Releasing.{live_named, pending, Calm, Tidy, Busy, Start, LiveLink, Releasing, visited_ended, counted_room}
+use Rattle.model.specs.declared.heads.Colour.TheVariants.{Black, Purple}
 use Rattle.model.proofs.Places.{each_head, head_there, head_elsewhere}
 use Rattle.model.proofs.Paths.{from_more, from_past}
 use Rattle.model.proofs.Counting.{naming_cons, naming_has}
-use Rattle.model.proofs.LiveCounting.{live_same, live_ends, live_le, pending_hit, pending_miss, pending_links, pending_calm, busy_links}
+use Rattle.model.proofs.LiveCounting.{live_same, live_ends, pending_hit, pending_miss, pending_links, pending_calm, busy_links}
 use Rattle.model.proofs.LawfulCalls.{chain_elsewhere}
 use Rattle.model.proofs.Leaving.{ended_as, left_size, left_back, left_on, left_both, left_head, left_other, left_row, left_links, left_live, free_settled, left_chain, given_chain, chain_small}
 

@@ -1,6 +1,6 @@
 -- A release harms nothing that is in play: holds stay, and the links and bytes of what keeps a count. Nor does a
 -- collection.
-use Rattle.std.proofs.Common.{◌≡◌, ℕ, zero, suc, ◌+◌, ◌-◌, ◌<◌, ◌≤◌, Bool, true, false, cond, not, ◌&&◌, eqb, ◌≢◌, ◌⊎◌, List, [], ◌∷◌, ◌++◌, map, length, get_or, set, sym, refl, ap, ◌∙◌, subst, inl, inr, ⊎_elim, arith}
+use Rattle.std.proofs.Common.{◌≡◌, ℕ, zero, suc, ◌+◌, ◌-◌, ◌≤◌, Bool, true, false, cond, not, eqb, ◌≢◌, List, [], ◌∷◌, length, get_or, set, sym, refl, ap, ◌∙◌, subst, ⊎_elim, arith}
 use Rattle.std.proofs.lemmas.List.{length-set}
 use Rattle.std.proofs.lemmas.List.Sums.{sum_by-set}
 use Rattle.std.proofs.lemmas.Bool.{cases_eq, both_ways, cond-true, cond-false, and_parts}
@@ -10,15 +10,15 @@ use Rattle.model.specs.Headers.{Header, free_header, painted, less_one, suspecte
 use Rattle.model.specs.History.{in_play}
 use Rattle.model.specs.Lawful.{Lawful, Reachable, once}
 use Rattle.model.specs.Lawful.From.{here}
-use Rattle.model.specs.Walk.{Progress, Task, Keeps, full}
+use Rattle.model.specs.Walk.{Progress, Task, Keeps}
 use Rattle.model.specs.Walk.Task.{follow, visit, leave}
-use Rattle.model.specs.Release.{at, moved, turn, suspect, spent, given_up, released, releasing, lower}
+use Rattle.model.specs.Release.{at, turn, spent, given_up, released, releasing, lower}
 use Rattle.model.specs.Collected.{AfterCollection}
 use Rattle.model.specs.Releasing.{Releasing, FewGiven, counted_room}
 use Rattle.model.specs.declared.heads.Colour.TheVariants.{Black}
 use Rattle.model.proofs.Places.{each_head, each_both}
 use Rattle.model.proofs.Ledgers.{playing, counted, reachable_playing}
-use Rattle.model.proofs.Releases.{release_keeps, doubted, suspect_is, follow_within}
+use Rattle.model.proofs.Releases.{release_keeps, suspect_is, follow_within}
 use Rattle.model.proofs.Lowering.{lower_walked}
 use Rattle.model.proofs.Walks.{Also, keeps_and, walk_keeps}
 

@@ -1,9 +1,9 @@
 -- What each call answers, and the store that it leaves.
-use Rattle.std.specs.Prelude.{ℕ, zero, suc, ◌+◌, min, Bool, true, false, cond, not, ◌&&◌, ◌||◌, List, [], ◌∷◌, map, length, replicate, ◌==◌, nat_le, nat_lt, slice_index}
+use Rattle.std.specs.Prelude.{ℕ, ◌+◌, min, Bool, true, false, cond, not, ◌&&◌, ◌||◌, List, [], ◌∷◌, map, length, replicate, ◌==◌, nat_le, nat_lt, slice_index}
 use Rattle.std.specs.List.{range_with_len}
-use Rattle.kinds.specs.Rows.{Row, Shape, blank, with_link, with_byte}
+use Rattle.kinds.specs.Rows.{Shape, blank, with_link, with_byte}
 use Rattle.model.specs.State.{State, head, row, in_use, with_head, with_row, with_front}
-use Rattle.model.specs.Headers.{Header, raised, held_more, held_less, free_header, made_header}
+use Rattle.model.specs.Headers.{raised, held_more, held_less, free_header, made_header}
 use Rattle.model.specs.Release.{lower}
 use Rattle.model.specs.Collection.{collected}
 use Rattle.model.specs.Walk.{Progress}

@@ -1,8 +1,8 @@
 -- What each part of a collection does, in the words of the subject.
-use Rattle.std.specs.Prelude.{◌≡◌, ℕ, ◌+◌, ◌<◌, ◌≤◌, Bool, true, false, ◌⊎◌, List, [], length}
+use Rattle.std.specs.Prelude.{◌≡◌, ℕ, ◌+◌, ◌<◌, false, ◌⊎◌, List, [], length}
 use Rattle.kinds.specs.Rows.{Shape}
 use Rattle.model.specs.State.{State, Within, head, row, in_use}
-use Rattle.model.specs.Headers.{Header, is_black}
+use Rattle.model.specs.Headers.{is_black}
 use Rattle.model.specs.Lawful.{From, Lawful, Links, Used, Spent, Candidate, Chain, Reachable, naming, once}
 use Rattle.model.specs.Walk.{Progress}
 use Rattle.model.specs.Colouring.{Sized, named_where, ungray}

@@ -1,13 +1,12 @@
 -- The collection of dead rings, by trial deletion: mark, scan with restore, and gather, each of them walks from the
 -- records of the candidate list.
-use Rattle.std.specs.Prelude.{ℕ, Bool, true, false, cond, not, ◌&&◌, List, [], ◌∷◌, ◌++◌, fold, ◌==◌}
+use Rattle.std.specs.Prelude.{ℕ, true, false, cond, not, ◌&&◌, [], ◌∷◌, ◌++◌, fold, ◌==◌}
 use Rattle.kinds.specs.Rows.{Shape}
 use Rattle.model.specs.State.{with_candidates}
 use Rattle.model.specs.Walk.{Progress, Rule, full}
 use Rattle.model.specs.Release.{at, moved, turn, given_up}
 use Rattle.model.specs.Headers.{painted, less_one, is_purple, more_one, unlisted, is_black, is_gray, is_white}
-use Rattle.model.specs.declared.heads.Colour.{Colour}
-use Rattle.model.specs.declared.heads.Colour.TheVariants.{Black, Gray, White, Purple}
+use Rattle.model.specs.declared.heads.Colour.TheVariants.{Black, Gray, White}
 
 abbrev pub stay : Progress → ℕ → Progress
 stay g t = g

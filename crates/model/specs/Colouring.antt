@@ -1,6 +1,6 @@
 -- What the walks of a collection have in common: whether a record can be entered goes by its colour, no record is
 -- entered twice, and the counts leave out the links of the records of some colours.
-use Rattle.std.specs.Prelude.{◌≡◌, ℕ, ◌+◌, ◌<◌, ◌≤◌, Bool, true, false, cond, not, ◌&&◌, ◌||◌, ◌⊎◌, List, [], ◌∷◌, length, count_by, ◌==◌, ◌≢◌}
+use Rattle.std.specs.Prelude.{◌≡◌, ℕ, ◌+◌, ◌<◌, ◌≤◌, Bool, true, false, cond, not, ◌⊎◌, List, [], ◌∷◌, length, count_by, ◌==◌, ◌≢◌}
 use Rattle.kinds.specs.Rows.{Row, Shape}
 use Rattle.model.specs.State.{State, Within, head, row}
 use Rattle.model.specs.Headers.{Header, is_black, is_gray, is_white}
@@ -8,7 +8,6 @@ use Rattle.model.specs.Lawful.{Links, Used, Chain, Settled, naming, once}
 use Rattle.model.specs.Walk.{Progress, Task, Absent}
 use Rattle.model.specs.Walk.Task.{follow, visit, leave}
 use Rattle.model.specs.Releasing.{live_named, Next}
-use Rattle.model.specs.declared.heads.Colour.{Colour}
 use Rattle.model.specs.declared.heads.Colour.TheVariants.{Purple}
 
 -- how many links of the records that keep p name t

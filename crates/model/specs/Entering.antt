@@ -1,5 +1,5 @@
 -- Which records a walk enters, and what can be said of every walk.
-use Rattle.std.specs.Prelude.{◌≡◌, ℕ, zero, suc, ◌+◌, ◌<◌, ◌≤◌, Bool, true, false, ◌≢◌, List, [], ◌∷◌, ◌++◌, map, length, ◌==◌}
+use Rattle.std.specs.Prelude.{◌≡◌, ℕ, zero, suc, ◌+◌, ◌<◌, ◌≤◌, true, false, ◌≢◌, List, [], ◌∷◌, ◌++◌, map, length, ◌==◌}
 use Rattle.model.specs.State.{row}
 use Rattle.model.specs.Lawful.{naming, once}
 use Rattle.model.specs.Walk.{Progress, Rule, Task, runs, walk, full}

@@ -1,11 +1,10 @@
 -- Raise and lower: the reference counts, and what is given back when a count comes to 0.
-use Rattle.std.specs.Prelude.{ℕ, suc, ◌+◌, ◌-◌, Bool, true, false, cond, List, [], ◌∷◌, ◌++◌, ◌==◌}
+use Rattle.std.specs.Prelude.{ℕ, ◌+◌, true, false, cond, [], ◌∷◌, ◌++◌, ◌==◌}
 use Rattle.kinds.specs.Rows.{Shape, blank}
 use Rattle.model.specs.State.{State, head, with_head, with_row, with_front, with_candidates}
 use Rattle.model.specs.Headers.{Header, free_header, is_purple, painted, less_one, suspected}
 use Rattle.model.specs.Walk.{Progress, Rule, full}
-use Rattle.model.specs.declared.heads.Colour.{Colour}
-use Rattle.model.specs.declared.heads.Colour.TheVariants.{Black, Gray, White, Purple}
+use Rattle.model.specs.declared.heads.Colour.TheVariants.{Black, Purple}
 
 abbrev pub at : Progress → ℕ → Header
 at g r = head g.store r

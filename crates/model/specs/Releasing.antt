@@ -1,6 +1,6 @@
 -- What holds at each moment of a release, of the store and of what is still to be done.
-use Rattle.std.specs.Prelude.{◌≡◌, ℕ, zero, suc, ◌+◌, ◌-◌, ◌<◌, ◌≤◌, Bool, true, false, cond, not, ◌⊎◌, List, [], ◌∷◌, length, count_by, ◌==◌}
-use Rattle.kinds.specs.Rows.{Row, Shape, blank}
+use Rattle.std.specs.Prelude.{◌≡◌, ℕ, ◌+◌, ◌<◌, ◌≤◌, true, cond, not, ◌⊎◌, List, [], ◌∷◌, length, count_by, ◌==◌}
+use Rattle.kinds.specs.Rows.{Row, Shape}
 use Rattle.model.specs.State.{State, Within, head, row, in_use}
 use Rattle.model.specs.Headers.{Header}
 use Rattle.model.specs.Lawful.{From, Held, Links, Candidate, Chain, Settled, Coloured, Resting, naming, once}

@@ -1,6 +1,6 @@
 -- What a store means: a header and a row for each record, the candidate list, and the front of the chain of free
 -- records. Record r stands at index r - 1 of each list; the number 0 names no record.
-use Rattle.std.specs.Prelude.{ℕ, ◌-◌, ◌≤◌, List, [], map, length, replicate, count_by, slice_index_or, slice_set}
+use Rattle.std.specs.Prelude.{ℕ, ◌-◌, ◌≤◌, List, [], length, count_by, slice_index_or, slice_set}
 use Rattle.kinds.specs.Rows.{Row}
 use Rattle.model.specs.Headers.{Header, free_header}
 

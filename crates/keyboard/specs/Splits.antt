@@ -1,0 +1,32 @@
+-- What is left of a line while its words are split off.
+use Rattle.std.specs.Prelude.{ℕ, Bool, true, false, List, [], ◌∷◌, Some, None, Option}
+use Rattle.std.specs.Borrow.{Bor}
+use Rattle.keyboard.specs.declared.words.Word.{Word}
+use Rattle.keyboard.specs.declared.words.Word.TheVariants.{Command, Digits}
+use Rattle.keyboard.specs.declared.words.Words.{Words}
+use Rattle.keyboard.specs.Lines.{words, numeral}
+
+abbrev pub words_of : Option (Bor (List ℕ)) → List (List ℕ)
+words_of None = []
+words_of (Some line) = words line.now
+
+-- the words that are still to come
+abbrev pub left : Words → List (List ℕ)
+left s = words_of s.rest
+
+abbrev pub text_of : Word → List ℕ
+text_of (Command w) = w.now
+text_of (Digits w) = w.now
+
+abbrev pub is_digits : Word → Bool
+is_digits (Command w) = false
+is_digits (Digits w) = true
+
+-- the number that the first of some words writes, and the words after it
+abbrev pub first_number : List (List ℕ) → Option ℕ
+first_number [] = None
+first_number (w ∷ ws) = numeral w
+
+abbrev pub others : List (List ℕ) → List (List ℕ)
+others [] = []
+others (w ∷ ws) = ws

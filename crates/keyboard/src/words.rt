@@ -1,0 +1,91 @@
+// The words of a line, split off one at a time.
+ghost use Rattle.std.specs.Prelude.{◌≡◌, [], ◌∷◌, IfSome, None, MatchOption, slice_index};
+ghost use Rattle.std.specs.Char.{is_ascii_digit};
+ghost use Rattle.keyboard.specs.Lines.{words, form};
+ghost use Rattle.keyboard.specs.Names.{name_of};
+ghost use Rattle.keyboard.specs.Splits.{left, first_number, others, text_of, is_digits, words_of};
+
+use crate::forms::Form;
+use crate::numbers::number;
+
+// A word, as a part of its line. One that begins with a digit can only be a number, and any other only a command.
+#[derive(Clone, Copy)]
+pub(crate) enum Word<'a> {
+    Command(&'a [u8]),
+    Digits(&'a [u8]),
+}
+
+impl<'a> Word<'a> {
+    // The word with these bytes; its first byte says which kind it is.
+    fn of(bytes: &'a [u8]) -> Word<'a>
+        ensures text { text_of result ≡ bytes.now }
+        ensures kind { is_digits result ≡ is_ascii_digit (slice_index bytes.now 0) }
+    {
+        match bytes {
+            [b'0'..=b'9', ..] => Word::Digits(bytes),
+            _ => Word::Command(bytes),
+        }
+    }
+}
+
+// The words of a line that are still to come: those of `rest`, or none.
+#[derive(Clone, Copy)]
+pub(crate) struct Words<'a> {
+    rest: Option<&'a [u8]>,
+}
+
+impl<'a> Words<'a> {
+    // All words of a line: at least one, which may be empty.
+    pub(crate) fn new(line: &'a [u8]) -> Words<'a>
+        ensures value { left result ≡ words line.now }
+    {
+        Words { rest: Some(line) }
+    }
+
+    // Splits the first word off. None where there is no word left.
+    pub(crate) fn next(&mut self) -> Option<Word<'a>>
+        ensures value { MatchOption result (left self.old ≡ []) (λ w. left self.old ≡ text_of w ∷ left self.new) }
+        ensures after { left self.new ≡ others (left self.old) }
+        ensures kind { IfSome result (λ w. is_digits w ≡ is_ascii_digit (slice_index (text_of w) 0)) }
+    {
+        let Some(line) = self.rest else {
+            return None;
+        };
+        let (first, rest) = split(line);
+        self.rest = rest;
+        Some(Word::of(first))
+    }
+
+    // The form whose command word comes next. None where the next word is the command word of no form.
+    pub(crate) fn form(&mut self) -> Option<Form>
+        ensures value { MatchOption result (form (left self.old) ≡ None) (λ f. left self.old ≡ name_of f ∷ left self.new) }
+    {
+        match self.next()? {
+            Word::Command(name) => Form::named(name),
+            Word::Digits(_) => None,
+        }
+    }
+
+    // The number that the next word writes. None where there is no word left, or it is no numeral.
+    pub(crate) fn number(&mut self) -> Option<usize>
+        ensures value { result ≡ first_number (left self.old) }
+        ensures after { left self.new ≡ others (left self.old) }
+    {
+        match self.next()? {
+            Word::Digits(digits) => number(digits),
+            Word::Command(_) => None,
+        }
+    }
+}
+
+// The first word of a line, and what follows the space after it; None where no space is there.
+fn split(line: &[u8]) -> (&[u8], Option<&[u8]>)
+    ensures value { words line.now ≡ result.0.now ∷ words_of result.1 }
+{
+    for (i, b) in line.iter().enumerate() {
+        if *b == b' ' {
+            return (&line[0..i], Some(&line[i + 1..]));
+        }
+    }
+    (line, None)
+}

@@ -1,3 +1,0 @@
-pub mod Numerals
-pub mod Splits
-pub mod Words
