@@ -1,10 +1,10 @@
 // The card box: keeps 200 score cards, and answers each line that is typed.
 ghost use Rattle.store.specs.View.{LawfulStore};
 
-use kinds::card::Card;
 use console::desk::Desk;
-use model::heads::Head;
+use kinds::card::Card;
 use kinds::kind::Kind;
+use model::heads::Head;
 use std::io;
 use std::io::{BufWriter, Read, Write};
 use store::table::Store;

@@ -3,10 +3,9 @@ use Rattle.std.proofs.Common.{◌≡◌, ℕ, zero, suc, ◌≤◌, min, Bool, t
 use Rattle.std.proofs.lemmas.List.{append-nil, length-take}
 use Rattle.std.proofs.lemmas.Bool.{cond_both, cond-true, cond-false, ne_eqb, eqb-true}
 use Rattle.kinds.specs.Rows.{Shape}
-use Rattle.answers.specs.Answers.{answer_line}
+use Rattle.keyboard.specs.Answers.{answer_line}
 use Rattle.keyboard.specs.Lines.{meaning}
-use Rattle.keyboard.proofs.Kept.{kept_means}
-use Rattle.lines.proofs.Keeping.{kept_next}
+use Rattle.keyboard.proofs.Keeping.{kept_next, kept_means}
 use Rattle.model.specs.Calls.{Answered}
 use Rattle.model.specs.State.{State}
 use Rattle.console.specs.Session.{Lined, Session, in_front, lined, last_line, all_lines, all_told, session, Typed, Whole}

@@ -1,7 +1,7 @@
 -- The lines of a whole input, and the whole output to it.
 use Rattle.std.specs.Prelude.{◌≡◌, ℕ, Bool, cond, List, [], ◌∷◌, ◌++◌, length, take, ◌==◌}
 use Rattle.kinds.specs.Rows.{Shape}
-use Rattle.answers.specs.Answers.{answer_line}
+use Rattle.keyboard.specs.Answers.{answer_line}
 use Rattle.model.specs.Calls.{Answered}
 use Rattle.model.specs.State.{State}
 use Rattle.console.specs.Told.{told}

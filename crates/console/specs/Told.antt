@@ -1,11 +1,10 @@
 -- What is answered to a line, and to each byte that is typed.
 use Rattle.std.specs.Prelude.{ℕ, Bool, cond, List, [], ◌∷◌, ◌++◌, length, take, Some, None, Option, ◌==◌}
 use Rattle.kinds.specs.Rows.{Shape}
-use Rattle.answers.specs.Answers.{answer_line}
-use Rattle.answers.specs.Written.{line_of}
-use Rattle.answers.specs.declared.Answer.{Answer}
+use Rattle.keyboard.specs.Answers.{answer_line}
+use Rattle.keyboard.specs.Buffers.{text, line_of}
 use Rattle.keyboard.specs.Lines.{meaning}
-use Rattle.lines.specs.Typed.{text}
+use Rattle.keyboard.specs.declared.answers.Answer.{Answer}
 use Rattle.model.specs.Calls.{Answered, answered, refused}
 use Rattle.model.specs.State.{State}
 use Rattle.model.specs.declared.calls.Call.{Call}

@@ -13,11 +13,11 @@ pub record Example : Type 0 where
 
 abbrev pub examples : List Example
 examples =
-    -- two cards that mark each other are collected; the next make takes card 1, and card 2 is not held
+    -- two cards that mark each other outlive their drops; the next make takes card 3, and card 2 is not held
     record {
       cards = 200;
-      input = codes "make\nmake\nlink 1 1 2\nlink 2 1 1\ndrop 1\ndrop 2\ncollect\nmake\ndrop 2\n";
-      output = codes "ok 1\nok 2\nok 0\nok 0\nok 0\nok 0\nok 2\nok 1\nrefused 3\n";
+      input = codes "make\nmake\nlink 1 1 2\nlink 2 1 1\ndrop 1\ndrop 2\nmake\ndrop 2\n";
+      output = codes "ok 1\nok 2\nok 0\nok 0\nok 0\nok 0\nok 3\nrefused 3\n";
     }
     -- a line outside the forms leaves the store as it was, and a last line without a line feed is answered
     ∷ record {

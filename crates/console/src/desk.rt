@@ -1,5 +1,5 @@
 // The line that is being typed.
-use lines::Line;
+use keyboard::Line;
 
 #[derive(Drop)]
 pub struct Desk {

@@ -1,8 +1,8 @@
 // What is done with each byte that is typed, and at the end of the input.
 ghost use Rattle.std.specs.Prelude.{◌≡◌, ℕ, true, List, [], ◌∷◌, ◌++◌, Some};
-ghost use Rattle.answers.specs.Written.{line_of};
 ghost use Rattle.console.specs.Session.{Typed, Whole};
 ghost use Rattle.console.specs.Told.{kept, told, shown, struck, ended, finished};
+ghost use Rattle.keyboard.specs.Buffers.{line_of};
 ghost use Rattle.keyboard.specs.Lines.{meaning};
 ghost use Rattle.model.specs.History.{GoesOn};
 ghost use Rattle.model.specs.declared.calls.Call.{Call as CallOf};
@@ -11,18 +11,11 @@ ghost use Rattle.steps.specs.Replies.{leaving, is_refusal};
 ghost use Rattle.store.specs.View.{view, LawfulStore};
 
 use crate::desk::Desk;
-use answers::Answer;
-use answers::writing::answer;
-use keyboard::command;
+use keyboard::{Answer, Line, answer, command};
 use kinds::kind::Kind;
-use lines::Line;
 use model::calls::Reply;
 use model::refusals::Refusal;
-use plays::performing::perform;
-use reclaim::records::Records;
-use steps::fields::Fields;
 use store::table::Store;
-use walks::stacked::Stacked;
 
 impl Desk {
     // A desk at which nothing is typed yet.
@@ -41,7 +34,7 @@ impl Desk {
         ensures history { (c : CallOf) → meaning (kept self.now) ≡ Some c → GoesOn K.Kind.shape (view K.Kind store.old) c result (view K.Kind store.new) }
     {
         match command(self.line.bytes()) {
-            Some(call) => perform(store, call),
+            Some(call) => store.perform(call),
             None => Reply::Refused(Refusal::BadLine),
         }
     }

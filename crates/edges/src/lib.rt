@@ -1,5 +1,5 @@
-// Tests at the ends of what is allowed: of stores, and of lines, numbers and answers.
-#[cfg(test)]
-mod line_tests;
+// Tests of collections at the ends of what is allowed.
+#![tactic(auto)]
+
 #[cfg(test)]
 mod tests;

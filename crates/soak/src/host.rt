@@ -5,11 +5,7 @@ use crate::dice::Dice;
 use crate::totals::Totals;
 use kinds::kind::Kind;
 use model::calls::{Call, Reply};
-use plays::performing::perform;
-use reclaim::records::Records;
-use steps::fields::Fields;
 use store::table::Store;
-use walks::stacked::Stacked;
 
 #[derive(Drop)]
 pub(crate) struct Host<'a, K> {
@@ -40,7 +36,7 @@ impl<'a, K: Kind> Host<'a, K> {
         requires lawful { LawfulStore K.Kind self.old.store }
         ensures lawful { LawfulStore K.Kind self.new.store }
     {
-        let reply = perform(&mut self.store, call);
+        let reply = self.store.perform(call);
         self.totals.note(call, reply);
         reply
     }

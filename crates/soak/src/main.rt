@@ -9,15 +9,11 @@ use crate::host::Host;
 use crate::rounds::play_round;
 use crate::totals::Totals;
 use kinds::card::Card;
-use handing::tally;
-use model::heads::Head;
 use kinds::kind::Kind;
 use kinds::pair::Pair;
-use reclaim::records::Records;
+use model::heads::Head;
 use std::io;
-use steps::fields::Fields;
 use store::table::Store;
-use walks::stacked::Stacked;
 
 const RECORDS: usize = 240;
 
@@ -53,7 +49,7 @@ fn soak<K: Kind>(rt: &impl Print, records: &mut [K], seed: u64) -> io::Result<()
     for round in 0..ROUNDS {
         play_round(&mut host, places, round);
     }
-    let in_use = tally(&host.store);
+    let in_use = host.store.tally();
     print_totals(rt, host.totals, in_use)
 }
 

@@ -1,5 +1,5 @@
 -- A store that a call leaves as the call's definition says is lawful.
-use Rattle.std.proofs.Common.{◌≡◌, ℕ, suc, ◌+◌, ◌*◌, ◌≤◌, List, [], ◌∷◌, length, sym, ap, ◌∙◌, subst, ⊎_elim, arith}
+use Rattle.std.proofs.Common.{◌≡◌, ℕ, suc, List, [], ◌∷◌, length, sym, ap, ◌∙◌, subst, ⊎_elim, arith}
 use Rattle.kinds.specs.Rows.{Shape}
 use Rattle.std.proofs.lemmas.List.Sums.{count_by-le-length}
 use Rattle.std.proofs.lemmas.Bool.{cases_eq}
@@ -8,7 +8,7 @@ use Rattle.model.specs.Lawful.{Lawful}
 use Rattle.model.specs.Release.{lower, releasing}
 use Rattle.model.specs.Releasing.{Releasing, FewGiven, counted_room}
 use Rattle.model.specs.State.{State}
-use Rattle.model.specs.Walk.{Progress, Task, full}
+use Rattle.model.specs.Walk.{Progress, Task}
 use Rattle.model.specs.Walk.Task.{follow, visit}
 use Rattle.model.specs.declared.calls.Call.{Call}
 use Rattle.model.specs.declared.calls.Reply.{Reply}

@@ -3,7 +3,6 @@ use Rattle.std.specs.Prelude.{◌≡◌, ℕ, ◌*◌, ◌≤◌, List, length}
 use Rattle.kinds.specs.Rows.{Shape, Bounded}
 use Rattle.model.specs.Lawful.{Lawful}
 use Rattle.model.specs.State.{State}
-use Rattle.model.specs.Walk.{Progress}
 use Rattle.reclaim.specs.declared.records.Records.{Ghosts}
 use Rattle.walks.specs.declared.stacked.Stacked as stacked
 

@@ -1,1 +1,2 @@
-pub mod Views
+mod Fitting
+mod Views

@@ -2,7 +2,9 @@
 use Rattle.std.proofs.Common.{◌≡◌, ℕ, zero, suc, ◌<◌, ◌≤◌, List, [], ◌∷◌, map, length, get_or, take, set, sym, refl, ap, ◌∙◌, arith}
 use Rattle.std.proofs.lemmas.List.{get_or-map, get_or-take, map-set, length-take-le, length-map}
 use Rattle.kinds.specs.declared.kind.Kind.{Ghosts}
-use Rattle.store.specs.View.{view, Roomy}
+use Rattle.kinds.specs.Rows.{Bounded}
+use Rattle.steps.specs.Keeping.{LawfulStore as LawfulOf}
+use Rattle.store.specs.View.{view, stacked, records, Roomy, LawfulStore}
 use Rattle.store.specs.declared.table.Store.{Store}
 
 pub take_of_set : {X : Type 0} (n : ℕ) (xs : List X) (i : ℕ) (v : X) → take n (set xs i v) ≡ set (take n xs) i v
@@ -30,3 +32,19 @@ module _ {K : Type 0} (g : Ghosts K) (s : Store K) (room : Roomy s) where
 -- N stays where the rows are as many
 pub same_size : {K : Type 0} (g : Ghosts K) (s z : Store K) → Roomy s → Roomy z → length (view g z).rows ≡ length (view g s).rows → z.n ≡ s.n
 same_size g s z a b e = sym (size_is g z b) ∙ e ∙ size_is g s a
+
+-- a lawful store is what the calls over any store ask for, and what they leave
+module _ {K : Type 0} (g : Ghosts K) (s : Store K) where
+  pub lawful_for : Bounded g.shape → LawfulStore g s → LawfulOf (stacked g) (records g) s
+  lawful_for b l = record {
+    sound = l.room;
+    keeping = record {
+      rules = l.rules;
+      bounded = b;
+      narrow = refl;
+      work_room = omega (arith, l.room.work_room, size_is g s l.room);
+    };
+  }
+
+  pub lawful_from : LawfulOf (stacked g) (records g) s → LawfulStore g s
+  lawful_from l = record { room = l.sound; rules = l.keeping.rules }

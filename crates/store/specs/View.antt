@@ -2,9 +2,9 @@
 use Rattle.std.specs.Prelude.{◌≡◌, ℕ, ◌*◌, ◌≤◌, List, map, length, take}
 use Rattle.kinds.specs.declared.kind.Kind.{Ghosts}
 use Rattle.model.specs.State.{State}
+use Rattle.model.specs.Lawful.{Lawful}
 use Rattle.model.specs.Headers.{header}
 use Rattle.model.specs.Walk.{Progress}
-use Rattle.steps.specs.Keeping.{LawfulStore as LawfulOf}
 use Rattle.reclaim.specs.declared.records.Records as reclaim
 use Rattle.walks.specs.declared.stacked.Stacked as walks
 use Rattle.store.specs.declared.table.Store.{Store}
@@ -44,5 +44,6 @@ abbrev pub records : {K : Type 0} → Ghosts K → reclaim.Ghosts (Store K)
 records g = record { shape = g.shape }
 
 -- a lawful store
-abbrev pub LawfulStore : {K : Type 0} → Ghosts K → Store K → Type 0
-LawfulStore g s = LawfulOf (stacked g) (records g) s
+pub record LawfulStore {K : Type 0} (g : Ghosts K) (s : Store K) : Type 0 where
+  pub room : Roomy s
+  pub rules : Lawful g.shape (view g s)

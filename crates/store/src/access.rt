@@ -6,8 +6,8 @@ ghost use Rattle.model.specs.Headers.{header};
 ghost use Rattle.store.specs.View.{view, progress, Roomy};
 
 use crate::table::Store;
-use model::heads::Head;
 use kinds::kind::Kind;
+use model::heads::Head;
 
 impl<'a, K: Kind> Store<'a, K> {
     // The head of record `r`.

@@ -1,11 +1,11 @@
 // The store as what the calls need.
 ghost use Rattle.store.specs.View.{view};
 
+use crate::counts::count_used;
 use crate::table::Store;
 use kinds::kind::{Kind, Numbers};
 use reclaim::records::Records;
 use steps::fields::Fields;
-use tables::counts::count_used;
 use walks::stacked::Stacked;
 
 impl<'a, K: Kind> Fields for Store<'a, K> {

@@ -1,7 +1,17 @@
-// The record store: fixed tables that a host lends, with the calls on them.
+// The record store: fixed tables that a host lends, and the calls on them.
+#![tactic(auto)]
+
 mod access;
+mod bytes;
+mod counts;
 pub mod fields;
-mod makes;
+mod fills;
+mod holds;
+mod links;
+mod looks;
+pub mod makes;
+mod performs;
+pub mod plays;
 pub mod records;
 pub mod stack;
 pub mod table;

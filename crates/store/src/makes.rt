@@ -1,14 +1,28 @@
-// The making of a store.
+// Which tables a store can be made over, and the making of one.
 ghost use Rattle.std.specs.Prelude.{◌≡◌, length};
 ghost use Rattle.model.specs.Calls.{new as new_state};
-ghost use Rattle.tables.specs.Tables.{table_size};
+ghost use Rattle.store.specs.Tables.{table_test, table_size};
 ghost use Rattle.store.specs.View.{view, LawfulStore};
 
+use crate::fills::{blank_records, chain_heads};
 use crate::table::Store;
-use model::heads::Head;
 use kinds::kind::Kind;
-use tables::fills::{blank_records, chain_heads};
-use tables::fits::test_tables;
+use model::heads::Head;
+use model::refusals::Refusal;
+
+// 0 where a store can be made over the tables, and else the number of the refusal.
+pub fn test_tables<K: Kind>(records: &[K], heads: &[Head], list: &[u16], work: &[u32]) -> u8
+    ensures value { result ≡ table_test (length records.now) (length heads.now) (length list.now) (length work.now) }
+{
+    let n = records.len();
+    if n == 0 || n > 4095 {
+        return Refusal::NoRecords.number();
+    }
+    if heads.len() != n || list.len() != n || work.len() < 2 * n {
+        return Refusal::WrongLengths.number();
+    }
+    0
+}
 
 impl<'a, K: Kind> Store<'a, K> {
     // A store of free records over tables that fit; over others nothing is written, and the store has no record.

@@ -2,8 +2,8 @@
 ghost use Rattle.store.specs.View.{view};
 
 use crate::table::Store;
-use model::heads::Head;
 use kinds::kind::Kind;
+use model::heads::Head;
 use reclaim::records::Records;
 use walks::stacked::Stacked;
 

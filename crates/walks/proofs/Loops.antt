@@ -3,8 +3,8 @@ use Rattle.std.proofs.Common.{◌≡◌, ℕ, suc, pred, ◌+◌, ◌-◌, ◌*�
 use Rattle.std.proofs.lemmas.List.{length-append, length-map, length-set, take-set-le, take-take}
 use Rattle.std.proofs.lemmas.Bool.{cases_Bool}
 use Rattle.kinds.specs.Rows.{Row}
-use Rattle.model.specs.State.{State, Within, row}
-use Rattle.model.specs.Walk.{Progress, Rule, Task, Keeps, Ready, walk, full}
+use Rattle.model.specs.State.{Within, row}
+use Rattle.model.specs.Walk.{Progress, Rule, Task, Keeps, Ready, full}
 use Rattle.model.specs.Walk.Task.{follow, visit, leave}
 use Rattle.model.proofs.Walks.{Going, settle, settle_none, opened, go_visit, go_empty, go_follow, go_pass, go_enter, go_leave}
 use Rattle.walks.specs.Begun.{Begun}

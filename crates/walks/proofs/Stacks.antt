@@ -1,10 +1,10 @@
 -- The stack of a walk: one number for a record and its next link, r * 32 + i.
-use Rattle.std.proofs.Common.{◌≡◌, ℕ, zero, suc, ◌+◌, ◌-◌, ◌*◌, ◌/◌, ◌%◌, ◌<◌, ◌≤◌, ◌≢◌, List, [], ◌∷◌, ◌++◌, map, length, get_or, take, drop, set, sym, refl, ap, ◌∙◌, subst, ap₂, arith}
+use Rattle.std.proofs.Common.{◌≡◌, ℕ, zero, suc, ◌+◌, ◌-◌, ◌/◌, ◌%◌, ◌<◌, ◌≤◌, ◌≢◌, List, [], ◌∷◌, ◌++◌, map, length, get_or, take, drop, set, sym, refl, ap, ◌∙◌, ap₂, arith}
 use Rattle.std.proofs.lemmas.List.{get_or-set_same, drop_all, drop_more, get_or-take, take-set}
 use Rattle.kinds.specs.Rows.{Row}
 use Rattle.model.specs.State.{no_row}
 use Rattle.model.specs.Walk.{Task, Absent}
-use Rattle.model.specs.Walk.Task.{follow, visit, leave}
+use Rattle.model.specs.Walk.Task.{follow, leave}
 
 -- the links of record r
 abbrev pub links_of : List Row → ℕ → List ℕ

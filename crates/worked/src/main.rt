@@ -1,13 +1,11 @@
 // Runs small sessions on each kind of record, and prints every call with its reply.
 use kinds::card::Card;
-use model::heads::Head;
 use kinds::kind::Kind;
-use model::calls::{Call, Reply};
 use kinds::pair::Pair;
-use plays::playing::play;
+use model::calls::{Call, Reply};
+use model::heads::Head;
 use std::io;
-
-mod sessions;
+use store::plays::play;
 
 fn print_call(rt: &impl Print, call: Call) -> io::Result<()> {
     match call {
@@ -43,66 +41,68 @@ fn print_all(rt: &impl Print, calls: &[Call], replies: &[Reply]) -> io::Result<(
     Ok(())
 }
 
-// Plays the calls on a new store of the first n records, and prints each with its reply.
-fn session<K: Kind>(
-    rt: &impl Print,
-    title: &str,
-    records: &mut [K],
-    n: usize,
-    calls: &[Call],
-) -> io::Result<()> {
-    let n = n.min(records.len()).min(200);
-    let mut heads = [Head::free(0); 200];
-    let mut list = [0u16; 200];
-    let mut work = [0u32; 400];
-    let mut replies = [Reply::Done; 36];
-    let _store = play(
-        &mut records[0..n],
-        &mut heads[0..n],
-        &mut list[0..n],
-        &mut work,
-        calls,
-        &mut replies,
-    );
-    println!(rt; "{title}")?;
-    print_all(rt, calls, &replies)
+// Makes until no record of three is free, holds, marks and reads; then ties records to each other
+// and to themselves, and lets go until some are given up and one stays spent.
+fn calls() -> [Call; 29] {
+    [
+        Call::Tally,
+        Call::Make,
+        Call::Make,
+        Call::Make,
+        Call::Make,
+        Call::Hold(2),
+        Call::Hold(4),
+        Call::Byte(3, 0, 7),
+        Call::Look(3, 0),
+        Call::Look(2, 0),
+        Call::Byte(1, 99, 7),
+        Call::Look(0, 99),
+        Call::Tally,
+        Call::Load(1, 0),
+        Call::Link(1, 0, 2),
+        Call::Link(2, 1, 2),
+        Call::Link(2, 9, 4),
+        Call::Link(2, 9, 0),
+        Call::Drop(2),
+        Call::Drop(2),
+        Call::Drop(2),
+        Call::Load(1, 0),
+        Call::Link(1, 0, 0),
+        Call::Link(2, 1, 0),
+        Call::Drop(2),
+        Call::Drop(1),
+        Call::Tally,
+        Call::Make,
+        Call::Make,
+    ]
 }
 
-// Every session, on the records of one kind.
-fn all_sessions<K: Kind>(rt: &impl Print, records: &mut [K]) -> io::Result<()> {
-    session(rt, "most calls", records, 3, &sessions::most_calls())?;
-    session(rt, "one make too many", records, 3, &sessions::makes())?;
-    session(rt, "a lone record", records, 3, &sessions::lone_record())?;
-    session(rt, "a ring of one", records, 3, &sessions::ring_of_one())?;
-    session(rt, "a ring of two", records, 200, &sessions::ring_of_two())?;
-    session(rt, "a held ring", records, 3, &sessions::held_ring(1, 2))?;
-    session(
-        rt,
-        "a held ring, 2 first",
+// Plays the calls over three records of the kind and prints each with its reply.
+fn session<K: Kind>(rt: &impl Print, records: &mut [K]) -> io::Result<()> {
+    let calls = calls();
+    let mut replies = [Reply::Done; 29];
+    let mut heads = [Head::free(0); 3];
+    let mut list = [0u16; 3];
+    let mut work = [0u32; 6];
+    let _store = play(
         records,
-        3,
-        &sessions::held_ring(2, 1),
-    )?;
-    session(rt, "a spent record", records, 2, &sessions::spent_record())?;
-    session(
-        rt,
-        "a chain released",
-        records,
-        2,
-        &sessions::released_chain(),
-    )?;
-    session(
-        rt,
-        "the same link twice",
-        records,
-        2,
-        &sessions::same_link(),
-    )
+        &mut heads,
+        &mut list,
+        &mut work,
+        &calls,
+        &mut replies,
+    );
+    print_all(rt, &calls, &replies)
 }
 
 fn main(rt: HostRuntime) -> io::Result<()> {
-    println!(rt; "on cards")?;
-    all_sessions(&rt, &mut [Card::blank(); 200])?;
-    println!(rt; "on pairs")?;
-    all_sessions(&rt, &mut [Pair::blank(); 200])
+    println!(rt; "cards")?;
+    session(&rt, &mut [Card::blank(); 3])?;
+    println!(rt; "pairs")?;
+    session(&rt, &mut [Pair::blank(); 3])
 }
+
+#[cfg(test)]
+mod line_tests;
+#[cfg(test)]
+mod tests;

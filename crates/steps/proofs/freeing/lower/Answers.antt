@@ -1,4 +1,4 @@
-use Rattle.std.proofs.Common.{◌≡◌, [], ◌∷◌, length, sym, ap, ◌∙◌, subst, arith}
+use Rattle.std.proofs.Common.{[], ◌∷◌, length, sym, ap, subst, arith}
 use Rattle.model.specs.Release.{releasing}
 use Rattle.model.specs.Releasing.{Releasing, FewGiven, counted_room}
 use Rattle.model.specs.Walk.{Keeps}

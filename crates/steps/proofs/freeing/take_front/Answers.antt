@@ -1,7 +1,6 @@
 use Rattle.std.proofs.Common.{◌≡◌, length, sym, ap, ◌∙◌, subst, arith}
 use Rattle.model.specs.Calls.{taken}
-use Rattle.model.specs.Release.{moved}
-use Rattle.model.specs.State.{Within, head, with_head, with_front}
+use Rattle.model.specs.State.{Within, with_head, with_front}
 use Rattle.model.specs.Headers.{made_header}
 use Rattle.model.specs.declared.calls.Call.TheVariants.{Make}
 use Rattle.model.specs.declared.calls.Reply.TheVariants.{Number}

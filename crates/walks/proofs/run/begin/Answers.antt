@@ -1,7 +1,6 @@
-use Rattle.std.proofs.Common.{◌≡◌, ◌+◌, ◌*◌, ◌<◌, ◌≤◌, true, false, length, get_or, take, set, sym, refl, ap, ◌∙◌, arith, rules}
+use Rattle.std.proofs.Common.{◌≡◌, ◌*◌, ◌<◌, length, get_or, take, sym, refl, ap, ◌∙◌, arith, rules}
 use Rattle.std.proofs.lemmas.List.{length-set, get_or-set_same, take-set}
 use Rattle.std.proofs.lemmas.Bool.{false≢true}
-use Rattle.walks.proofs.run.begin.Given as given
 use Rattle.walks.proofs.run.begin.Goals as goal
 
 pub visit-requires : goal.visit-requires

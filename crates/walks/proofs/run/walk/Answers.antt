@@ -1,4 +1,4 @@
-use Rattle.std.proofs.Common.{◌≡◌, ◌%◌, ◌^◌, ◌<◌, ◌≤◌, [], length, sym, refl, ap, ◌∙◌, arith, rules}
+use Rattle.std.proofs.Common.{◌%◌, ◌^◌, ◌<◌, ◌≤◌, [], length, refl, ap, ◌∙◌, arith, rules}
 use Rattle.model.proofs.Entries.{walk_laws}
 use Rattle.walks.proofs.Loops.{at_top, end, first, follow_ready, followed, free, inside, leave_ready, low, named, onward, onward_end, turn_begun, turn_empty, turn_leave, advance, visit_ready, visit_small}
 use Rattle.walks.proofs.run.walk.Goals as goal

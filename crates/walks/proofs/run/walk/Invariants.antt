@@ -1,6 +1,6 @@
 use Rattle.std.proofs.Common.{◌≡◌, length}
 use Rattle.walks.proofs.Stacks.{todo}
-use Rattle.walks.proofs.Loops.{Course, Loop, course, left, weight}
+use Rattle.walks.proofs.Loops.{Loop, course, left, weight}
 use Rattle.model.proofs.Walks.{settle}
 use Rattle.walks.proofs.run.walk.Given as goal
 

@@ -1,6 +1,6 @@
 use Rattle.std.proofs.Common.{◌≡◌, ℕ, List, [], sym, ap, ◌∙◌, subst}
-use Rattle.answers.specs.Answers.{answer_line}
-use Rattle.answers.specs.Written.{line_of}
+use Rattle.keyboard.specs.Answers.{answer_line}
+use Rattle.keyboard.specs.Buffers.{line_of}
 use Rattle.model.specs.History.{GoesOn}
 use Rattle.steps.specs.Replies.{is_refusal}
 use Rattle.store.specs.View.{view}

@@ -1,12 +1,12 @@
-use Rattle.std.proofs.Common.{◌≡◌, ℕ, map, length, take, sym, refl, ap, ◌∙◌, subst, arith}
+use Rattle.std.proofs.Common.{◌≡◌, ℕ, map, length, sym, refl, ap, ◌∙◌, subst, arith}
 use Rattle.std.specs.List.{range_with_len}
-use Rattle.std.proofs.lemmas.List.{take_all, length-map, length-take-le}
+use Rattle.std.proofs.lemmas.List.{take_all}
 use Rattle.model.specs.Calls.{next_free}
 use Rattle.model.specs.Lawful.{Lawful}
 use Rattle.model.specs.State.{State}
 use Rattle.model.specs.Headers.{header, free_header}
 use Rattle.model.proofs.NewStore.{lawful_new}
-use Rattle.tables.proofs.Fitting.{fitting, size_fitting, made_state}
+use Rattle.store.proofs.Fitting.{fitting, size_fitting, made_state}
 use Rattle.store.proofs.table.Store.new.Goals as goal
 
 pub returns : goal.returns
@@ -31,19 +31,14 @@ returns g c =
     record {
       store = store;
       lawful = record {
-        sound = record {
+        room = record {
           records_room = omega arith;
           heads_room = omega arith;
           list_room = omega (arith, f.list_same);
           work_room = omega (arith, f.work_room);
           listed_room = omega arith;
         };
-        keeping = record {
-          rules = subst (Lawful k) (sym store) (lawful_new k _ (omega (arith, size, f.few)));
-          bounded = g.met.K.Kind.bounded;
-          narrow = refl;
-          work_room = omega (arith, f.work_room, length-map (take (length records) records) g.K.Kind.row, length-take-le (length records) records (omega arith), r);
-        };
+        rules = subst (Lawful k) (sym store) (lawful_new k _ (omega (arith, size, f.few)));
       };
       untouched = λ z. absurd (f.some (sym size ∙ z));
       others = (refl, refl);

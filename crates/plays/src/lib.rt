@@ -1,4 +1,0 @@
-// One call in, one reply out; and a whole list of calls on a new store.
-pub mod performing;
-pub mod playing;
-mod replies;

@@ -1,0 +1,108 @@
+// Runs sessions with rings, and those of the worked examples, on each kind of record, and prints every call with its reply.
+use kinds::card::Card;
+use kinds::kind::Kind;
+use kinds::pair::Pair;
+use model::calls::{Call, Reply};
+use model::heads::Head;
+use std::io;
+use store::plays::play;
+
+mod sessions;
+
+fn print_call(rt: &impl Print, call: Call) -> io::Result<()> {
+    match call {
+        Call::Make => print!(rt; "make"),
+        Call::Hold(r) => print!(rt; "hold {r}"),
+        Call::Load(r, l) => print!(rt; "load {r} {l}"),
+        Call::Link(r, l, t) => print!(rt; "link {r} {l} {t}"),
+        Call::Byte(r, b, v) => print!(rt; "byte {r} {b} {v}"),
+        Call::Look(r, b) => print!(rt; "look {r} {b}"),
+        Call::Drop(r) => print!(rt; "drop {r}"),
+        Call::Collect => print!(rt; "collect"),
+        Call::Tally => print!(rt; "tally"),
+    }
+}
+
+fn print_reply(rt: &impl Print, reply: Reply) -> io::Result<()> {
+    match reply {
+        Reply::Number(n) => println!(rt; " -> {n}"),
+        Reply::Nothing => println!(rt; " -> none"),
+        Reply::Done => println!(rt; " -> done"),
+        Reply::Refused(why) => {
+            let number = why.number();
+            println!(rt; " -> refused {number}")
+        }
+    }
+}
+
+fn print_all(rt: &impl Print, calls: &[Call], replies: &[Reply]) -> io::Result<()> {
+    for (call, reply) in calls.iter().zip(replies.iter()) {
+        print_call(rt, *call)?;
+        print_reply(rt, *reply)?;
+    }
+    Ok(())
+}
+
+// Plays the calls on a new store of the first n records, and prints each with its reply.
+fn session<K: Kind>(
+    rt: &impl Print,
+    title: &str,
+    records: &mut [K],
+    n: usize,
+    calls: &[Call],
+) -> io::Result<()> {
+    let n = n.min(records.len()).min(200);
+    let mut heads = [Head::free(0); 200];
+    let mut list = [0u16; 200];
+    let mut work = [0u32; 400];
+    let mut replies = [Reply::Done; 36];
+    let _store = play(
+        &mut records[0..n],
+        &mut heads[0..n],
+        &mut list[0..n],
+        &mut work,
+        calls,
+        &mut replies,
+    );
+    println!(rt; "{title}")?;
+    print_all(rt, calls, &replies)
+}
+
+// Every session, on the records of one kind.
+fn all_sessions<K: Kind>(rt: &impl Print, records: &mut [K]) -> io::Result<()> {
+    session(rt, "most calls", records, 3, &sessions::most_calls())?;
+    session(rt, "one make too many", records, 3, &sessions::makes())?;
+    session(rt, "a lone record", records, 3, &sessions::lone_record())?;
+    session(rt, "a ring of one", records, 3, &sessions::ring_of_one())?;
+    session(rt, "a ring of two", records, 200, &sessions::ring_of_two())?;
+    session(rt, "a held ring", records, 3, &sessions::held_ring(1, 2))?;
+    session(
+        rt,
+        "a held ring, 2 first",
+        records,
+        3,
+        &sessions::held_ring(2, 1),
+    )?;
+    session(rt, "a spent record", records, 2, &sessions::spent_record())?;
+    session(
+        rt,
+        "a chain released",
+        records,
+        2,
+        &sessions::released_chain(),
+    )?;
+    session(
+        rt,
+        "the same link twice",
+        records,
+        2,
+        &sessions::same_link(),
+    )
+}
+
+fn main(rt: HostRuntime) -> io::Result<()> {
+    println!(rt; "on cards")?;
+    all_sessions(&rt, &mut [Card::blank(); 200])?;
+    println!(rt; "on pairs")?;
+    all_sessions(&rt, &mut [Pair::blank(); 200])
+}

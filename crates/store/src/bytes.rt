@@ -1,0 +1,22 @@
+// Writing one byte of a record.
+ghost use Rattle.std.specs.Prelude.{◌≡◌, true, is_err};
+ghost use Rattle.model.specs.Calls.{byte};
+ghost use Rattle.steps.specs.Replies.{granted, leaving};
+ghost use Rattle.store.specs.View.{view, LawfulStore};
+
+use crate::table::Store;
+use altering::write_byte;
+use kinds::kind::Kind;
+use model::refusals::Refusal;
+
+impl<'a, K: Kind> Store<'a, K> {
+    // Sets byte `b` of a held record.
+    pub fn write_byte(&mut self, r: usize, b: usize, v: u8) -> Result<(), Refusal>
+        requires lawful { LawfulStore K.Kind self.old }
+        ensures answer { leaving (granted result) (view K.Kind self.new) ≡ byte K.Kind.shape (view K.Kind self.old) r b v }
+        ensures lawful { LawfulStore K.Kind self.new }
+        ensures untouched { is_err result ≡ true → self.new ≡ self.old }
+    {
+        write_byte(self, r, b, v)
+    }
+}
