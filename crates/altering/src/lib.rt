@@ -1,6 +1,8 @@
 // The calls that alter records or give them back: link, byte write, drop and collect. Each requires only that the store is
 // lawful, answers what its definition says and leaves the store that it says; a refusal leaves everything as it was, every
 // table to its end.
+#![tactic(auto)]
+
 ghost use Rattle.std.specs.Prelude.{◌≡◌, true, is_err};
 ghost use Rattle.model.specs.Calls.{link as link_call, byte as byte_call, drop as drop_call, collect as collect_call, started};
 ghost use Rattle.model.specs.Collected.{AfterCollection};

@@ -1,4 +1,6 @@
 // The card box: keeps 200 score cards, and answers each line that is typed.
+#![tactic(auto)]
+
 ghost use Rattle.store.specs.View.{LawfulStore};
 
 use console::desk::Desk;

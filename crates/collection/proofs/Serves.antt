@@ -1,5 +1,5 @@
 -- What is known of a listed record where mark, scan or gather serves it.
-use Rattle.std.proofs.Common.{◌≡◌, ℕ, ◌+◌, ◌<◌, ◌≤◌, true, false, List, [], ◌∷◌, length, take, sym, ap, ◌∙◌, subst, arith}
+use Rattle.std.proofs.Common.{◌≡◌, ℕ, ◌<◌, true, false, List, ◌∷◌, length, take, sym, ap, ◌∙◌, subst, arith}
 use Rattle.kinds.specs.Rows.{Shape}
 use Rattle.model.specs.Collected.{AfterMark, AfterScan}
 use Rattle.model.specs.Collection.{marking, mark_one, struck, kept_listed, list_taken}

@@ -1,7 +1,7 @@
 -- A list served from its first record to its last, out of a table that is read ahead of what is written to it.
 use Rattle.std.proofs.Common.{◌≡◌, ℕ, suc, ◌+◌, ◌-◌, ◌<◌, ◌≤◌, List, [], ◌∷◌, length, get_or, take, drop, fold, sym, refl, ap, ◌∙◌, subst, arith}
 use Rattle.std.proofs.lemmas.List.{drop_more, drop-drop, get_or-take, get_or-drop, length-take, length-take-le, length-drop, drop_all}
-use Rattle.kinds.specs.Rows.{Shape, Row}
+use Rattle.kinds.specs.Rows.{Shape}
 use Rattle.model.specs.Walk.{Progress, Task, full}
 use Rattle.model.specs.Walk.Task.{visit}
 use Rattle.model.specs.Collection.{marking}

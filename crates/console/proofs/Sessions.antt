@@ -1,14 +1,13 @@
 -- Bytes that are typed one by one give the output to the whole input.
-use Rattle.std.proofs.Common.{◌≡◌, ℕ, zero, suc, ◌≤◌, min, Bool, true, false, cond, eqb, List, [], ◌∷◌, ◌++◌, length, take, sym, refl, ap, ◌∙◌, subst, append_assoc, arith}
-use Rattle.std.proofs.lemmas.List.{append-nil, length-take}
+use Rattle.std.proofs.Common.{◌≡◌, ℕ, Bool, true, false, cond, eqb, List, [], ◌∷◌, ◌++◌, length, take, sym, refl, ap, ◌∙◌, subst, append_assoc, arith}
+use Rattle.std.proofs.lemmas.List.{append-nil}
 use Rattle.std.proofs.lemmas.Bool.{cond_both, cond-true, cond-false, ne_eqb, eqb-true}
 use Rattle.kinds.specs.Rows.{Shape}
 use Rattle.keyboard.specs.Answers.{answer_line}
-use Rattle.keyboard.specs.Lines.{meaning}
 use Rattle.keyboard.proofs.Keeping.{kept_next, kept_means}
 use Rattle.model.specs.Calls.{Answered}
 use Rattle.model.specs.State.{State}
-use Rattle.console.specs.Session.{Lined, Session, in_front, lined, last_line, all_lines, all_told, session, Typed, Whole}
+use Rattle.console.specs.Session.{Lined, in_front, lined, all_told, Typed, Whole}
 use Rattle.console.specs.Told.{Stroke, told, told_by, struck, ended, finished}
 
 abbrev step : ℕ → Lined → Lined

@@ -1,5 +1,5 @@
 -- The lines of a whole input, and the whole output to it.
-use Rattle.std.specs.Prelude.{◌≡◌, ℕ, Bool, cond, List, [], ◌∷◌, ◌++◌, length, take, ◌==◌}
+use Rattle.std.specs.Prelude.{◌≡◌, ℕ, cond, List, [], ◌∷◌, ◌++◌, length, take, ◌==◌}
 use Rattle.kinds.specs.Rows.{Shape}
 use Rattle.keyboard.specs.Answers.{answer_line}
 use Rattle.model.specs.Calls.{Answered}

@@ -1,5 +1,5 @@
 -- What is answered to a line, and to each byte that is typed.
-use Rattle.std.specs.Prelude.{ℕ, Bool, cond, List, [], ◌∷◌, ◌++◌, length, take, Some, None, Option, ◌==◌}
+use Rattle.std.specs.Prelude.{ℕ, cond, List, [], ◌∷◌, ◌++◌, length, take, Some, None, Option, ◌==◌}
 use Rattle.kinds.specs.Rows.{Shape}
 use Rattle.keyboard.specs.Answers.{answer_line}
 use Rattle.keyboard.specs.Buffers.{text, line_of}

@@ -1,5 +1,5 @@
 -- A worked session at the keyboard, byte for byte.
-use Rattle.std.specs.Prelude.{◌≡◌, ℕ, List, [], ◌∷◌, ◌++◌, codes}
+use Rattle.std.specs.Prelude.{◌≡◌, ℕ, List, [], ◌∷◌, codes}
 use Rattle.std.specs.List.{AllByRecursion as All}
 use Rattle.kinds.specs.contracts.card.CardKind.TheImpl.{ghosts as card_kind}
 use Rattle.model.specs.Calls.{new}

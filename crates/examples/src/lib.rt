@@ -1,4 +1,6 @@
 // The worked examples of the store as one theorem. The public function stands for it, and answers how many there are.
+#![tactic(auto)]
+
 ghost use Rattle.std.specs.Prelude.{◌≡◌, length};
 ghost use Rattle.examples.specs.Worked.{examples, ExamplesRight};
 

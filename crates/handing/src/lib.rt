@@ -1,6 +1,8 @@
 // The calls that hand records out or only read: make, hold, load, look and tally. Each requires only that the store is
 // lawful, answers what its definition says and leaves the store that it says; a refusal leaves everything as it was, every
 // table to its end.
+#![tactic(auto)]
+
 ghost use Rattle.std.specs.Prelude.{◌≡◌, true, is_err};
 ghost use Rattle.model.specs.Calls.{make as make_call, hold as hold_call, load as load_call, look as look_call};
 ghost use Rattle.model.specs.State.{in_use};

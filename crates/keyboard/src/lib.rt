@@ -1,4 +1,6 @@
 // From the bytes of a line to a call, and from an answer to bytes.
+#![tactic(auto)]
+
 mod answers;
 mod commands;
 mod forms;

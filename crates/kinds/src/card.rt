@@ -2,7 +2,7 @@
 ghost use Rattle.std.specs.Prelude.{◌≡◌, ◌≤◌, length};
 ghost use Rattle.std.specs.List.{AllWithin};
 ghost use Rattle.kinds.specs.CardKindLemmas.{all_small};
-ghost use Rattle.std.proofs.Common.{rules, arith};
+ghost use Rattle.std.proofs.Common.{rules};
 
 use crate::kind::{Kind, Numbers};
 
@@ -28,7 +28,7 @@ impl Kind for Card {
 
     ghost row = { λ c. record { links = c.ties; bytes = c.holes } };
 
-    ghost bounded = { first_of (Prim.search rules, Prim.grind (arith, Self.row.coded.inj)) };
+    ghost bounded = { Prim.search rules };
 
     ghost fits = { λ x.
         record {

@@ -3,7 +3,7 @@
 // A write packs the cell anew from what it keeps and what it is given, so that no bit of a neighbour can be lost.
 ghost use Rattle.std.specs.Prelude.{◌≡◌, ◌^◌, ◌<◌, ◌≤◌, [], ◌∷◌};
 ghost use Rattle.kinds.specs.Words.{unpacked};
-ghost use Rattle.std.proofs.Common.{rules, arith};
+ghost use Rattle.std.proofs.Common.{rules};
 
 use crate::kind::{Kind, Numbers};
 
@@ -37,9 +37,9 @@ impl Kind for Pair {
 
     ghost row = { λ p. unpacked p.word };
 
-    ghost bounded = { first_of (Prim.search rules, Prim.grind (arith, Self.row.coded.inj)) };
+    ghost bounded = { Prim.search rules };
 
-    ghost fits = { first_of (Prim.search rules, Prim.grind (arith, Self.row.coded.inj)) };
+    ghost fits = { Prim.search rules };
 
     fn numbers() -> Numbers {
         Numbers {

@@ -1,4 +1,6 @@
 // What load, link, drop and a byte write do once their tests are passed.
+#![tactic(auto)]
+
 ghost use Rattle.std.specs.Prelude.{◌≡◌, ◌<◌, true, ◌&&◌, ◌||◌, is_err, ◌==◌};
 ghost use Rattle.model.specs.Calls.{load as load_call, link as link_call, drop as drop_call, byte as byte_call, is_held};
 ghost use Rattle.model.specs.declared.calls.Reply.TheVariants.{Number, Done};

@@ -249,7 +249,7 @@ module _ (k : Shape) (l : Ledger) (s : State) (law : Lawful k s) (agrees : Agree
   exact_answered Collect e r u = reachable_live k s l law agrees ((collect_law k s law).used_reachable r u)
   exact_answered Tally e r u = absurd (false≢true e)
 
--- What every call keeps: the store is lawful and agrees with the ledger l, m makes and g give_ups are accounted for, and
+-- What every call keeps: the store is lawful and agrees with the ledger l, m makes and g give-ups are accounted for, and
 -- where the last call was a collection, what is in use can be come to by the calls alone.
 pub record Faithful (k : Shape) (l : Ledger) (m g : ℕ) (swept : Bool) (s : State) : Type 0 where
   pub lawful : Lawful k s

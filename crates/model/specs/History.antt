@@ -77,7 +77,7 @@ noted k l c (Refused x) = l
 abbrev pub ledger : Shape → ℕ → List Event → Ledger
 ledger k n es = fold (λ l e. noted k l e.call e.reply) (empty_ledger k n) es
 
--- accepted makes, and give_ups reported
+-- accepted makes, and give-ups reported
 abbrev pub is_make : Call → ℕ
 is_make Make = 1
 is_make (Hold r) = 0

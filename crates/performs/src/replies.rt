@@ -5,29 +5,29 @@ ghost use Rattle.steps.specs.Replies.{numbered as numbered_reply, loaded as load
 use model::calls::Reply;
 use model::refusals::Refusal;
 
-pub(crate) fn numbered(res: Result<usize, Refusal>) -> Reply
-    ensures value { result ≡ numbered_reply res }
+pub(crate) fn numbered(outcome: Result<usize, Refusal>) -> Reply
+    ensures value { result ≡ numbered_reply outcome }
 {
-    match res {
+    match outcome {
         Ok(n) => Reply::Number(n),
         Err(e) => Reply::Refused(e),
     }
 }
 
-pub(crate) fn loaded(res: Result<Option<usize>, Refusal>) -> Reply
-    ensures value { result ≡ loaded_reply res }
+pub(crate) fn loaded(outcome: Result<Option<usize>, Refusal>) -> Reply
+    ensures value { result ≡ loaded_reply outcome }
 {
-    match res {
+    match outcome {
         Ok(Some(n)) => Reply::Number(n),
         Ok(None) => Reply::Nothing,
         Err(e) => Reply::Refused(e),
     }
 }
 
-pub(crate) fn granted(res: Result<(), Refusal>) -> Reply
-    ensures value { result ≡ granted_reply res }
+pub(crate) fn granted(outcome: Result<(), Refusal>) -> Reply
+    ensures value { result ≡ granted_reply outcome }
 {
-    match res {
+    match outcome {
         Ok(()) => Reply::Done,
         Err(e) => Reply::Refused(e),
     }

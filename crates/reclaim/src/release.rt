@@ -61,8 +61,6 @@ impl<S: Records> Walk<S> for Release {
 
     ghost spare = { λ _. 0 };
 
-    ghost apart = { λ _. [] };
-
     fn follow(store: &mut S, t: usize) {
         let head = store.read_head(t);
         store.write_head(t, head.lessened());

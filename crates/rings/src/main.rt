@@ -1,4 +1,6 @@
 // Runs sessions with rings, and those of the worked examples, on each kind of record, and prints every call with its reply.
+#![tactic(auto)]
+
 use kinds::card::Card;
 use kinds::kind::Kind;
 use kinds::pair::Pair;

@@ -1,5 +1,7 @@
 // Fills and empties a store of cards and one of pairs thousands of times, with rings of changing size and shape, and prints
 // totals that must add up.
+#![tactic(auto)]
+
 mod dice;
 mod host;
 mod rounds;

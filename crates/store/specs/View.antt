@@ -1,5 +1,5 @@
 -- What the tables of a store mean, and what a lawful store is.
-use Rattle.std.specs.Prelude.{◌≡◌, ℕ, ◌*◌, ◌≤◌, List, map, length, take}
+use Rattle.std.specs.Prelude.{◌*◌, ◌≤◌, map, length, take}
 use Rattle.kinds.specs.declared.kind.Kind.{Ghosts}
 use Rattle.model.specs.State.{State}
 use Rattle.model.specs.Lawful.{Lawful}

@@ -1,6 +1,6 @@
 -- What the steps of a walk keep, they keep beside a fact that no step touches.
 use Prim.Native.Nat.{ℕ}
-use mathlib.Core.Path.{◌≡◌, subst, sym}
+use mathlib.Core.Path.{subst, sym}
 use mathlib.Core.List.{List}
 use Rattle.kinds.specs.Rows.{Shape}
 use Rattle.model.specs.Walk.{Progress, Rule, Task, Keeps}

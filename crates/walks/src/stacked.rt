@@ -1,5 +1,5 @@
 // What a walk asks of a store.
-ghost use Rattle.std.specs.Prelude.{◌≡◌, ℕ, ◌^◌, ◌<◌, ◌≤◌, List, length, slice_index, slice_set};
+ghost use Rattle.std.specs.Prelude.{◌≡◌, ℕ, ◌^◌, ◌<◌, ◌≤◌, List, [], length, slice_index, slice_set};
 ghost use Rattle.model.specs.State.{Within, row};
 ghost use Rattle.model.specs.Walk.{Progress};
 
@@ -11,8 +11,8 @@ pub trait Stacked {
     // The table.
     ghost stack: { Self → List ℕ };
 
-    // The table of the candidate list, past the list's end too.
-    ghost table: { Self → List ℕ };
+    // The table of the candidate list, past the list's end too; a store that keeps none says nothing.
+    ghost table: { Self → List ℕ } = { λ _. [] };
 
     // What every function here relies on and keeps.
     ghost sound: { Self → Type 0 };

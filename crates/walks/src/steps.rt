@@ -1,5 +1,5 @@
 // What one walk does at each record.
-ghost use Rattle.std.specs.Prelude.{◌≡◌, ℕ, ◌+◌, ◌≤◌, ◌≢◌, List, length, take, if◌then◌else◌};
+ghost use Rattle.std.specs.Prelude.{◌≡◌, ℕ, ◌+◌, ◌≤◌, ◌≢◌, List, [], length, take, if◌then◌else◌};
 ghost use Rattle.model.specs.Walk.{Progress, Rule, Task, Ready};
 ghost use Rattle.model.specs.Walk.Task.{follow as to_follow, visit as to_visit, leave as to_leave};
 
@@ -21,8 +21,8 @@ pub trait Walk<S: Stacked> {
     // The stack that the steps themselves need, where there are so many records.
     ghost spare: { ℕ → ℕ };
 
-    // What of the table of the candidate list no step alters.
-    ghost apart: { List ℕ → List ℕ };
+    // What of the table of the candidate list no step alters: none, where nothing is said.
+    ghost apart: { List ℕ → List ℕ } = { λ _. [] };
 
     // A link to `t` is followed.
     fn follow(store: &mut S, t: usize)

@@ -1,4 +1,6 @@
 // Runs small sessions on each kind of record, and prints every call with its reply.
+#![tactic(auto)]
+
 use kinds::card::Card;
 use kinds::kind::Kind;
 use kinds::pair::Pair;

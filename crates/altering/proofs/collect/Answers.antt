@@ -5,7 +5,6 @@ use Rattle.model.specs.Collected.{AfterCollection}
 use Rattle.model.specs.Collection.{collected}
 use Rattle.model.specs.Lawful.{Lawful}
 use Rattle.model.specs.Releasing.{FewGiven}
-use Rattle.model.specs.State.{in_use}
 use Rattle.model.specs.declared.calls.Reply.TheVariants.{Number}
 use Rattle.steps.specs.Keeping.{state}
 use Rattle.steps.specs.Replies.{leaving}

@@ -1,4 +1,4 @@
-use Rattle.std.proofs.Common.{◌≡◌, ◌≢◌, sym, arith}
+use Rattle.std.proofs.Common.{◌≢◌, sym, arith}
 use Rattle.model.specs.Lawful.{Links}
 use Rattle.model.proofs.LawfulCalls.{held_from_test}
 use Rattle.steps.specs.Keeping.{state}

@@ -1,7 +1,7 @@
-use Rattle.std.proofs.Common.{◌≡◌, ℕ, sym, refl, ap, ◌∙◌}
+use Rattle.std.proofs.Common.{sym, refl, ap, ◌∙◌}
 use Rattle.std.proofs.lemmas.Bool.{false≢true}
 use Rattle.model.specs.Calls.{answered}
-use Rattle.model.specs.declared.calls.Reply.TheVariants.{Number, Refused}
+use Rattle.model.specs.declared.calls.Reply.TheVariants.{Number}
 use Rattle.model.proofs.Histories.{goes_on}
 use Rattle.steps.specs.Keeping.{state}
 use Rattle.steps.specs.Replies.{leaving}

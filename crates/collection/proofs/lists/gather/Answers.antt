@@ -1,4 +1,4 @@
-use Rattle.std.proofs.Common.{◌≡◌, ◌+◌, ◌≤◌, length, take, drop, fold, sym, refl, ap, ◌∙◌, subst, arith}
+use Rattle.std.proofs.Common.{◌≡◌, ◌+◌, length, take, drop, fold, sym, refl, ap, ◌∙◌, subst, arith}
 use Rattle.model.specs.Collected.{AfterCollection}
 use Rattle.model.specs.Collection.{gather_one, gathered, list_taken}
 use Rattle.model.proofs.GatherLaws.{gather_turn, gather_law}

@@ -1,4 +1,4 @@
-use Rattle.std.proofs.Common.{◌≡◌, ◌+◌, ◌≤◌, length, take, drop, fold, sym, refl, ap, ◌∙◌, subst, arith}
+use Rattle.std.proofs.Common.{◌≡◌, ◌+◌, length, take, fold, sym, refl, ap, ◌∙◌, subst, arith}
 use Rattle.model.specs.Collected.{AfterMark}
 use Rattle.model.specs.Collection.{mark_one, marked, list_taken}
 use Rattle.model.proofs.MarkLaws.{MarkList, mark_turn, mark_law}

@@ -1,11 +1,9 @@
-use Rattle.std.proofs.Common.{◌≡◌, ◌+◌, ◌≤◌, length, take, drop, fold, sym, refl, ap, ◌∙◌, subst, arith}
-use Rattle.kinds.specs.Rows.{Shape}
+use Rattle.std.proofs.Common.{◌≡◌, ◌+◌, length, drop, fold, sym, refl, ap, ◌∙◌, subst, arith}
 use Rattle.model.specs.Collected.{AfterScan}
 use Rattle.model.specs.Collection.{scanning, scan_one, scanned}
 use Rattle.model.specs.Colouring.{Scanning, gray, open_room, open_once}
-use Rattle.model.specs.Walk.{Progress}
 use Rattle.model.proofs.Scans.{scanning_keeps, scanning_opens}
-use Rattle.model.proofs.ScanLaws.{ScanList, scan_begins, scan_turn, scan_law}
+use Rattle.model.proofs.ScanLaws.{scan_begins, scan_turn, scan_law}
 use Rattle.tracing.proofs.Narrowing.{narrow_keeps, narrow_opens}
 use Rattle.collection.proofs.Serves.{scan_begun, Scans}
 use Rattle.collection.proofs.Turns.{turn_first, turn_inside, turn_ready, turn_next, turn_all, listed_long}

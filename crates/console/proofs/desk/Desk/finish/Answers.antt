@@ -1,5 +1,4 @@
-use Rattle.std.proofs.Common.{◌≡◌, ℕ, List, [], sym, ap, ◌∙◌, subst}
-use Rattle.keyboard.specs.Answers.{answer_line}
+use Rattle.std.proofs.Common.{ℕ, List, [], ap, ◌∙◌, subst}
 use Rattle.keyboard.specs.Buffers.{line_of}
 use Rattle.model.specs.History.{GoesOn}
 use Rattle.steps.specs.Replies.{is_refusal}

@@ -1,4 +1,4 @@
-use Rattle.std.proofs.Common.{◌≡◌, ℕ, eqb, List, [], sym, refl, ap, ◌∙◌}
+use Rattle.std.proofs.Common.{ℕ, eqb, List, [], sym, refl, ap, ◌∙◌}
 use Rattle.std.proofs.lemmas.Bool.{cond-true, cond-false, eq-eqb, ne_eqb}
 use Rattle.store.specs.View.{view}
 use Rattle.console.specs.Told.{Stroke, kept}

@@ -1,4 +1,4 @@
-use Rattle.std.proofs.Common.{◌≡◌, ℕ, ◌<◌, List, set, sym, refl, ap, arith, length-set}
+use Rattle.std.proofs.Common.{ℕ, ◌<◌, List, set, sym, refl, ap, arith, length-set}
 use Rattle.std.proofs.lemmas.List.{take_more_set, length-take-le}
 use Rattle.model.specs.Walk.{Progress}
 use Rattle.store.specs.View.{view}

@@ -1,9 +1,8 @@
-use Rattle.std.proofs.Common.{◌≡◌, ℕ, map, length, sym, refl, ap, ◌∙◌, subst, arith}
+use Rattle.std.proofs.Common.{◌≡◌, map, length, sym, refl, ap, ◌∙◌, subst, arith}
 use Rattle.std.specs.List.{range_with_len}
 use Rattle.std.proofs.lemmas.List.{take_all}
 use Rattle.model.specs.Calls.{next_free}
 use Rattle.model.specs.Lawful.{Lawful}
-use Rattle.model.specs.State.{State}
 use Rattle.model.specs.Headers.{header, free_header}
 use Rattle.model.proofs.NewStore.{lawful_new}
 use Rattle.store.proofs.Fitting.{fitting, size_fitting, made_state}
