@@ -1,6 +1,6 @@
 -- A worked session at the keyboard, byte for byte.
 use Rattle.std.specs.Prelude.{◌≡◌, ℕ, List, [], ◌∷◌, codes}
-use Rattle.std.specs.List.{AllByRecursion as All}
+use Rattle.std.specs.List.{AllByRecursion}
 use Rattle.kinds.specs.contracts.card.CardKind.TheImpl.{ghosts as card_kind}
 use Rattle.model.specs.Calls.{new}
 use Rattle.console.specs.Session.{session}
@@ -31,4 +31,4 @@ examples =
 
 abbrev pub SessionsRight : Type 0
 SessionsRight =
-    All (λ e. (session card_kind.shape (new card_kind.shape e.cards) e.input).output ≡ e.output) examples
+    AllByRecursion (λ e. (session card_kind.shape (new card_kind.shape e.cards) e.input).output ≡ e.output) examples

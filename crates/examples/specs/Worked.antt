@@ -1,6 +1,6 @@
 -- Worked examples: calls on a new store, what they answer, and what the store is after them.
 use Rattle.std.specs.Prelude.{◌≡◌, ℕ, List, [], ◌∷◌, map, Some, None, Option}
-use Rattle.std.specs.List.{AllByRecursion as All}
+use Rattle.std.specs.List.{AllByRecursion}
 use Rattle.kinds.specs.Rows.{Shape}
 use Rattle.kinds.specs.contracts.card.CardKind.TheImpl.{ghosts as card_kind}
 use Rattle.kinds.specs.contracts.pair.PairKind.TheImpl.{ghosts as pair_kind}
@@ -117,4 +117,4 @@ Right k e =
 
 -- every example is right on cards and on pairs
 abbrev pub ExamplesRight : Type 0
-ExamplesRight = All (λ e. Right card e × Right pair e) examples
+ExamplesRight = AllByRecursion (λ e. Right card e × Right pair e) examples

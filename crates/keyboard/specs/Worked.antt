@@ -1,6 +1,6 @@
 -- Worked lines and answers.
 use Rattle.std.specs.Prelude.{◌≡◌, ℕ, List, [], ◌∷◌, ◌++◌, replicate, Some, None, codes, Option}
-use Rattle.std.specs.List.{AllByRecursion as All}
+use Rattle.std.specs.List.{AllByRecursion}
 use Rattle.model.specs.declared.calls.Call.{Call}
 use Rattle.model.specs.declared.calls.Call.TheVariants.{Make, Hold, Load, Link, Byte, Look, Drop, Tally}
 use Rattle.model.specs.declared.calls.Reply.{Reply}
@@ -58,7 +58,7 @@ answers =
     ∷ []
 
 abbrev pub LinesRight : Type 0
-LinesRight = All (λ e. meaning e.0 ≡ e.1) lines
+LinesRight = AllByRecursion (λ e. meaning e.0 ≡ e.1) lines
 
 abbrev pub AnswersRight : Type 0
-AnswersRight = All (λ e. answer_line e.0 ≡ e.1) answers
+AnswersRight = AllByRecursion (λ e. answer_line e.0 ≡ e.1) answers

@@ -1,6 +1,6 @@
 -- What a record of any kind means: a list of links and a list of bytes.
 use Rattle.std.specs.Prelude.{◌≡◌, ℕ, ◌≤◌, List, length, replicate, slice_set}
-use Rattle.std.specs.List.{AllByRecursion as All}
+use Rattle.std.specs.List.{AllByRecursion}
 
 -- the three numbers that a kind fixes: how many links and bytes each record has, and the code of the kind in an image
 pub record Shape : Type 0 where
@@ -34,5 +34,5 @@ with_byte w j b = record { links = w.links; bytes = slice_set w.bytes j b }
 pub record Fits (k : Shape) (w : Row) : Type 0 where
   pub links_fit : length w.links ≡ k.links
   pub bytes_fit : length w.bytes ≡ k.bytes
-  pub links_small : All (λ t. t ≤ 4095) w.links
-  pub bytes_small : All (λ b. b ≤ 255) w.bytes
+  pub links_small : AllByRecursion (λ t. t ≤ 4095) w.links
+  pub bytes_small : AllByRecursion (λ b. b ≤ 255) w.bytes

@@ -8,7 +8,7 @@ ghost use Rattle.store.specs.View.{view, LawfulStore};
 use crate::table::Store;
 use kinds::kind::Kind;
 use model::calls::{Call, Reply};
-use performs::perform;
+use performing::perform;
 
 impl<'a, K: Kind> Store<'a, K> {
     // Performs one call. Whatever calls led to this store, the promises over all of them hold after it.

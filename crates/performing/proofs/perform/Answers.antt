@@ -5,8 +5,8 @@ use Rattle.model.specs.declared.calls.Reply.TheVariants.{Number}
 use Rattle.model.proofs.Histories.{goes_on}
 use Rattle.steps.specs.Keeping.{state}
 use Rattle.steps.specs.Replies.{leaving}
-use Rattle.performs.proofs.Refusing.{numbered_refusal, loaded_refusal, granted_refusal}
-use Rattle.performs.proofs.perform.Goals as goal
+use Rattle.performing.proofs.Refusing.{numbered_refusal, loaded_refusal, granted_refusal}
+use Rattle.performing.proofs.perform.Goals as goal
 
 pub returns-in-Make : goal.returns-in-Make
 returns-in-Make g c =
