@@ -8,7 +8,7 @@ ghost use Rattle.model.specs.History.{GoesOn};
 ghost use Rattle.model.specs.declared.calls.Call.{Call as CallOf};
 ghost use Rattle.model.specs.State.{State};
 ghost use Rattle.steps.specs.Replies.{leaving, is_refusal};
-ghost use Rattle.store.specs.View.{view, LawfulStore};
+ghost use Rattle.store.specs.View.{view, LawfulStore, Same};
 
 use crate::desk::Desk;
 use keyboard::{Answer, Line, answer, command};
@@ -30,7 +30,7 @@ impl Desk {
         requires lawful { LawfulStore K.Kind store.old }
         ensures answer { leaving result (view K.Kind store.new) ≡ told K.Kind.shape (view K.Kind store.old) (kept self.now) }
         ensures lawful { LawfulStore K.Kind store.new }
-        ensures untouched { is_refusal result ≡ true → store.new ≡ store.old }
+        ensures untouched { is_refusal result ≡ true → Same store.old store.new }
         ensures history { (c : CallOf) → meaning (kept self.now) ≡ Some c → GoesOn K.Kind.shape (view K.Kind store.old) c result (view K.Kind store.new) }
     {
         match command(self.line.bytes()) {
@@ -44,7 +44,7 @@ impl Desk {
         requires lawful { LawfulStore K.Kind store.old }
         ensures answer { record { line = kept self.new; output = line_of result; store = view K.Kind store.new } ≡ finished (told K.Kind.shape (view K.Kind store.old) (kept self.old)) }
         ensures lawful { LawfulStore K.Kind store.new }
-        ensures untouched { is_refusal (told K.Kind.shape (view K.Kind store.old) (kept self.old)).reply ≡ true → store.new ≡ store.old }
+        ensures untouched { is_refusal (told K.Kind.shape (view K.Kind store.old) (kept self.old)).reply ≡ true → Same store.old store.new }
         ensures history { (c : CallOf) → meaning (kept self.old) ≡ Some c → GoesOn K.Kind.shape (view K.Kind store.old) c (told K.Kind.shape (view K.Kind store.old) (kept self.old)).reply (view K.Kind store.new) }
     {
         let reply = self.reply(store);
@@ -57,7 +57,7 @@ impl Desk {
         requires lawful { LawfulStore K.Kind store.old }
         ensures answer { record { line = kept self.new; output = shown result; store = view K.Kind store.new } ≡ struck K.Kind.shape (view K.Kind store.old) (kept self.old) byte }
         ensures lawful { LawfulStore K.Kind store.new }
-        ensures untouched { is_refusal (told K.Kind.shape (view K.Kind store.old) (kept self.old)).reply ≡ true → store.new ≡ store.old }
+        ensures untouched { is_refusal (told K.Kind.shape (view K.Kind store.old) (kept self.old)).reply ≡ true → Same store.old store.new }
         ensures history { (c : CallOf) → byte ≡ 10 → meaning (kept self.old) ≡ Some c → GoesOn K.Kind.shape (view K.Kind store.old) c (told K.Kind.shape (view K.Kind store.old) (kept self.old)).reply (view K.Kind store.new) }
         ensures session { (s : State) (input output : List ℕ) → Typed K.Kind.shape s input output (kept self.old) (view K.Kind store.old) → Typed K.Kind.shape s (input ++ byte ∷ []) (output ++ shown result) (kept self.new) (view K.Kind store.new) }
     {

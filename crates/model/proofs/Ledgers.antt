@@ -112,7 +112,11 @@ module _ (k : Shape) (s : State) (l : Ledger) (law : Lawful k s) (agrees : Agree
       along (reachable_live f)
       (ties.0, (ties.1.0, ap (λ w. get_or w.links ties.1.0 0) (agrees.same_row q p.0.0 p.1) ∙ ties.1.1))
 
+  -- what is reachable by the calls alone is in use and in play
+  pub live_playing : {r : ℕ} → Live l r → Used s r × (in_play (head s r) ≡ true)
+  live_playing live = reachable_playing k s law (live_reachable live)
+
   pub reachable_kept : (r : ℕ) → Live l r → Used s r × (row s r ≡ (entry l r).row)
   reachable_kept r live =
-      let p = reachable_playing k s law (live_reachable live) in
+      let p = live_playing live in
       (p.0, sym (agrees.same_row r p.0.0 p.1))

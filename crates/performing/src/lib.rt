@@ -20,7 +20,7 @@ use walks::stacked::Stacked;
 // Performs one call. Whatever calls led to this store, the promises over all of them hold after it.
 pub fn perform<S: Fields>(store: &mut S, call: Call) -> Reply
     requires lawful { LawfulStore S.Stacked S.Records.own store.old }
-    ensures answer { leaving (result) (state S.Stacked store.new) ≡ answered S.Records.shape (state S.Stacked store.old) call }
+    ensures answer { leaving result (state S.Stacked store.new) ≡ answered S.Records.shape (state S.Stacked store.old) call }
     ensures lawful { LawfulStore S.Stacked S.Records.own store.new }
     ensures untouched { is_refusal result ≡ true → store.new ≡ store.old }
     ensures history { GoesOn S.Records.shape (state S.Stacked store.old) call result (state S.Stacked store.new) }

@@ -1,2 +1,2 @@
 mod Fitting
-mod Views
+pub mod Views

@@ -1,5 +1,5 @@
 -- What the tables of a store mean, and what a lawful store is.
-use Rattle.std.specs.Prelude.{◌*◌, ◌≤◌, map, length, take}
+use Rattle.std.specs.Prelude.{◌≡◌, ◌*◌, ◌≤◌, map, length, take}
 use Rattle.kinds.specs.declared.kind.Kind.{Ghosts}
 use Rattle.model.specs.State.{State}
 use Rattle.model.specs.Lawful.{Lawful}
@@ -47,3 +47,13 @@ records g = record { shape = g.shape }
 pub record LawfulStore {K : Type 0} (g : Ghosts K) (s : Store K) : Type 0 where
   pub room : Roomy s
   pub rules : Lawful g.shape (view g s)
+
+-- nothing is altered, in any table
+pub record Same {K : Type 0} (a b : Store K) : Type 0 where
+  pub records_same : b.records.now ≡ a.records.now
+  pub heads_same : b.heads.now ≡ a.heads.now
+  pub list_same : b.list.now ≡ a.list.now
+  pub work_same : b.work.now ≡ a.work.now
+  pub n_same : b.n ≡ a.n
+  pub listed_same : b.listed ≡ a.listed
+  pub front_same : b.front ≡ a.front

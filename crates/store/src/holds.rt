@@ -1,11 +1,10 @@
 // Make and hold.
 ghost use Rattle.std.specs.Prelude.{◌≡◌, true, is_err};
-ghost use Rattle.model.specs.Calls.{make as make_call, hold as hold_call};
+ghost use Rattle.model.specs.Calls.{make, hold};
 ghost use Rattle.steps.specs.Replies.{numbered, leaving};
-ghost use Rattle.store.specs.View.{view, LawfulStore};
+ghost use Rattle.store.specs.View.{view, LawfulStore, Same};
 
 use crate::table::Store;
-use handing::{hold, make};
 use kinds::kind::Kind;
 use model::refusals::Refusal;
 
@@ -13,20 +12,20 @@ impl<'a, K: Kind> Store<'a, K> {
     // A record from the front of the free chain, with one hold.
     pub fn make(&mut self) -> Result<usize, Refusal>
         requires lawful { LawfulStore K.Kind self.old }
-        ensures answer { leaving (numbered result) (view K.Kind self.new) ≡ make_call (view K.Kind self.old) }
+        ensures answer { leaving (numbered result) (view K.Kind self.new) ≡ make (view K.Kind self.old) }
         ensures lawful { LawfulStore K.Kind self.new }
-        ensures untouched { is_err result ≡ true → self.new ≡ self.old }
+        ensures untouched { is_err result ≡ true → Same self.old self.new }
     {
-        make(self)
+        handing::make(self)
     }
 
     // One more hold on a held record, which is raised for it.
     pub fn hold(&mut self, r: usize) -> Result<usize, Refusal>
         requires lawful { LawfulStore K.Kind self.old }
-        ensures answer { leaving (numbered result) (view K.Kind self.new) ≡ hold_call (view K.Kind self.old) r }
+        ensures answer { leaving (numbered result) (view K.Kind self.new) ≡ hold (view K.Kind self.old) r }
         ensures lawful { LawfulStore K.Kind self.new }
-        ensures untouched { is_err result ≡ true → self.new ≡ self.old }
+        ensures untouched { is_err result ≡ true → Same self.old self.new }
     {
-        hold(self, r)
+        handing::hold(self, r)
     }
 }

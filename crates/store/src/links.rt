@@ -2,7 +2,7 @@
 ghost use Rattle.std.specs.Prelude.{◌≡◌, true, is_err};
 ghost use Rattle.model.specs.Calls.{load as load_call, link as link_call, drop as drop_call};
 ghost use Rattle.steps.specs.Replies.{numbered, loaded, leaving};
-ghost use Rattle.store.specs.View.{view, LawfulStore};
+ghost use Rattle.store.specs.View.{view, LawfulStore, Same};
 
 use crate::table::Store;
 use altering::{drop_hold, link};
@@ -16,7 +16,7 @@ impl<'a, K: Kind> Store<'a, K> {
         requires lawful { LawfulStore K.Kind self.old }
         ensures answer { leaving (loaded result) (view K.Kind self.new) ≡ load_call K.Kind.shape (view K.Kind self.old) r l }
         ensures lawful { LawfulStore K.Kind self.new }
-        ensures untouched { is_err result ≡ true → self.new ≡ self.old }
+        ensures untouched { is_err result ≡ true → Same self.old self.new }
     {
         load(self, r, l)
     }
@@ -26,7 +26,7 @@ impl<'a, K: Kind> Store<'a, K> {
         requires lawful { LawfulStore K.Kind self.old }
         ensures answer { leaving (numbered result) (view K.Kind self.new) ≡ link_call K.Kind.shape (view K.Kind self.old) r l t }
         ensures lawful { LawfulStore K.Kind self.new }
-        ensures untouched { is_err result ≡ true → self.new ≡ self.old }
+        ensures untouched { is_err result ≡ true → Same self.old self.new }
     {
         link(self, r, l, t)
     }
@@ -36,7 +36,7 @@ impl<'a, K: Kind> Store<'a, K> {
         requires lawful { LawfulStore K.Kind self.old }
         ensures answer { leaving (numbered result) (view K.Kind self.new) ≡ drop_call K.Kind.shape (view K.Kind self.old) r }
         ensures lawful { LawfulStore K.Kind self.new }
-        ensures untouched { is_err result ≡ true → self.new ≡ self.old }
+        ensures untouched { is_err result ≡ true → Same self.old self.new }
     {
         drop_hold(self, r)
     }

@@ -1,12 +1,11 @@
 // Reading one byte of a record, and the tally.
 ghost use Rattle.std.specs.Prelude.{◌≡◌};
-ghost use Rattle.model.specs.Calls.{look as look_call};
+ghost use Rattle.model.specs.Calls.{look};
 ghost use Rattle.model.specs.State.{in_use};
 ghost use Rattle.steps.specs.Replies.{numbered, leaving};
 ghost use Rattle.store.specs.View.{view, LawfulStore};
 
 use crate::table::Store;
-use handing::{look, tally};
 use kinds::kind::Kind;
 use model::refusals::Refusal;
 
@@ -14,9 +13,9 @@ impl<'a, K: Kind> Store<'a, K> {
     // Byte `b` of a held record. It alters nothing.
     pub fn look(&self, r: usize, b: usize) -> Result<u8, Refusal>
         requires lawful { LawfulStore K.Kind self.now }
-        ensures answer { leaving (numbered result) (view K.Kind self.now) ≡ look_call K.Kind.shape (view K.Kind self.now) r b }
+        ensures answer { leaving (numbered result) (view K.Kind self.now) ≡ look K.Kind.shape (view K.Kind self.now) r b }
     {
-        look(self, r, b)
+        handing::look(self, r, b)
     }
 
     // How many records are in use. It alters nothing.
@@ -24,6 +23,6 @@ impl<'a, K: Kind> Store<'a, K> {
         requires lawful { LawfulStore K.Kind self.now }
         ensures value { result ≡ in_use (view K.Kind self.now) }
     {
-        tally(self)
+        handing::tally(self)
     }
 }

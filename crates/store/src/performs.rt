@@ -3,7 +3,7 @@ ghost use Rattle.std.specs.Prelude.{◌≡◌, true};
 ghost use Rattle.model.specs.Calls.{answered};
 ghost use Rattle.model.specs.History.{GoesOn};
 ghost use Rattle.steps.specs.Replies.{leaving, is_refusal};
-ghost use Rattle.store.specs.View.{view, LawfulStore};
+ghost use Rattle.store.specs.View.{view, LawfulStore, Same};
 
 use crate::table::Store;
 use kinds::kind::Kind;
@@ -16,7 +16,7 @@ impl<'a, K: Kind> Store<'a, K> {
         requires lawful { LawfulStore K.Kind self.old }
         ensures answer { leaving result (view K.Kind self.new) ≡ answered K.Kind.shape (view K.Kind self.old) call }
         ensures lawful { LawfulStore K.Kind self.new }
-        ensures untouched { is_refusal result ≡ true → self.new ≡ self.old }
+        ensures untouched { is_refusal result ≡ true → Same self.old self.new }
         ensures history { GoesOn K.Kind.shape (view K.Kind self.old) call result (view K.Kind self.new) }
     {
         perform(self, call)

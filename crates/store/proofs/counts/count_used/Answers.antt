@@ -1,17 +1,10 @@
-use Rattle.std.proofs.Common.{◌≡◌, ◌+◌, min, Bool, cond, List, [], ◌∷◌, map, length, take, count_by, sym, refl, ap, ◌∙◌, arith, length-take}
-use Rattle.std.proofs.lemmas.List.Sums.{sum_by-cons, count_by-le-length, count_by_more_yes, count_by_more_no}
+use Rattle.std.proofs.Common.{◌≡◌, ◌+◌, min, length, take, count_by, sym, ap, ◌∙◌, arith, length-take}
+use Rattle.std.proofs.lemmas.List.Sums.{count_by-le-length, count_by_more_yes, count_by_more_no}
 use Rattle.std.proofs.lemmas.List.{length-take-le, take-take, take_all}
 use Rattle.model.specs.Headers.{header}
+use Rattle.store.proofs.Views.{count_by_map}
 use Rattle.store.proofs.counts.count_used.Goals as goal
 use Rattle.store.proofs.counts.count_used.Goals.{then-heads-i, else-heads-i}
-
-count_by_map :
-    {X Y : Type 0} (p : Y → Bool) (f : X → Y) (xs : List X) → count_by p (map f xs) ≡ count_by (λ x. p (f x)) xs
-count_by_map p f [] = refl
-count_by_map p f (x ∷ xs) =
-    sum_by-cons (λ y. cond (p y) 1 0) (f x) (map f xs)
-    ∙ ap (λ n. cond (p (f x)) 1 0 + n) (count_by_map p f xs)
-    ∙ sym (sum_by-cons (λ y. cond (p (f y)) 1 0) x xs)
 
 pub overflow_add-used : goal.overflow_add-used
 overflow_add-used c =

@@ -1,6 +1,7 @@
-use Rattle.std.proofs.Common.{ℕ, eqb, List, [], sym, refl, ap, ◌∙◌}
+use Rattle.std.proofs.Common.{ℕ, eqb, List, [], sym, ap, ◌∙◌}
 use Rattle.std.proofs.lemmas.Bool.{cond-true, cond-false, eq-eqb, ne_eqb}
 use Rattle.store.specs.View.{view}
+use Rattle.store.proofs.Views.{same_store}
 use Rattle.console.specs.Told.{Stroke, kept}
 use Rattle.console.proofs.Sessions.{typed_more}
 use Rattle.console.proofs.desk.Desk.key.Goals as goal
@@ -32,7 +33,7 @@ returns g c =
     record {
       answer = answer;
       lawful = c.requires.lawful;
-      untouched = λ _. refl;
+      untouched = λ _. same_store c.args.store.now;
       history = λ d e _. absurd (c.if-byte-eq10.false e);
       session = λ s input output so_far. typed_more k s input output line t so_far b _ answer;
     }
