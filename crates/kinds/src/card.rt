@@ -54,7 +54,7 @@ impl Kind for Card {
     }
 
     fn link(&self, i: usize) -> u16 {
-        if i < Self::P { self.ties[i] } else { 0 }
+        self.ties.get(i).copied().unwrap_or(0)
     }
 
     fn set_link(&mut self, i: usize, t: u16) -> bool {
@@ -66,7 +66,7 @@ impl Kind for Card {
     }
 
     fn byte(&self, j: usize) -> u8 {
-        if j < Self::W { self.holes[j] } else { 0 }
+        self.holes.get(j).copied().unwrap_or(0)
     }
 
     fn set_byte(&mut self, j: usize, b: u8) -> bool {

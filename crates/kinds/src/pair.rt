@@ -16,6 +16,7 @@ pub struct Pair {
 
 impl Pair {
     // The cell with these two links and this byte.
+    #[tactic(auto, using(crate::proofs::Packing::packing_read))]
     fn packed(first: u16, second: u16, byte: u8) -> Self
         requires { (first ≤ 4095) × (second ≤ 4095) }
         ensures value { unpacked result.word ≡ record { links = first ∷ second ∷ []; bytes = byte ∷ [] } }
@@ -53,6 +54,7 @@ impl Kind for Pair {
         Pair { word: 0 }
     }
 
+    #[tactic(auto, using(crate::proofs::Packing::low_twelve))]
     fn link(&self, i: usize) -> u16 {
         match i {
             0 => (self.word & 0xfff) as u16,

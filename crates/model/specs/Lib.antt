@@ -2,6 +2,8 @@ pub mod Refusals
 pub mod Headers
 pub mod State
 pub mod Calls
+pub mod Replies
+pub mod Texts
 pub mod Lawful
 pub mod History
 pub mod Walk

@@ -7,48 +7,30 @@ use crate::heads::{Colour, Head};
 
 impl Head {
     // One hold more, for which the count has room.
-    pub fn held_more(self) -> Head
+    pub fn held_more(mut self) -> Head
         requires lawful { (self.holds < self.count) × (self.holds < 65535) }
         ensures value { header result ≡ held_more (header self) }
     {
-        Head {
-            used: self.used,
-            holds: self.holds + 1,
-            count: self.count,
-            colour: self.colour,
-            waiting: self.waiting,
-            next: self.next,
-        }
+        self.holds += 1;
+        self
     }
 
     // One hold less.
-    pub fn held_less(self) -> Head
+    pub fn held_less(mut self) -> Head
         requires lawful { 0 < self.holds }
         ensures value { header result ≡ held_less (header self) }
     {
-        Head {
-            used: self.used,
-            holds: self.holds - 1,
-            count: self.count,
-            colour: self.colour,
-            waiting: self.waiting,
-            next: self.next,
-        }
+        self.holds -= 1;
+        self
     }
 
     // One reference more, colour kept.
-    pub fn more(self) -> Head
+    pub fn more(mut self) -> Head
         requires lawful { self.count < 4294967295 }
         ensures value { header result ≡ more_one (header self) }
     {
-        Head {
-            used: self.used,
-            holds: self.holds,
-            count: self.count + 1,
-            colour: self.colour,
-            waiting: self.waiting,
-            next: self.next,
-        }
+        self.count += 1;
+        self
     }
 
     // Raise: one reference more, and no longer suspected.
@@ -60,59 +42,36 @@ impl Head {
     }
 
     // One reference less, which is not one of the holds.
-    pub fn lessened(self) -> Head
+    pub fn lessened(mut self) -> Head
         requires lawful { self.holds < self.count }
         ensures value { header result ≡ less_one (header self) }
     {
-        Head {
-            used: self.used,
-            holds: self.holds,
-            count: self.count - 1,
-            colour: self.colour,
-            waiting: self.waiting,
-            next: self.next,
-        }
+        self.count -= 1;
+        self
     }
 
     // Another colour.
-    pub fn painted(self, colour: Colour) -> Head
+    pub fn painted(mut self, colour: Colour) -> Head
         ensures value { header result ≡ painted_header colour (header self) }
     {
-        Head {
-            used: self.used,
-            holds: self.holds,
-            count: self.count,
-            colour,
-            waiting: self.waiting,
-            next: self.next,
-        }
+        self.colour = colour;
+        self
     }
 
     // Suspected of hanging in a dead ring, and waiting for a collection.
-    pub fn suspected(self) -> Head
+    pub fn suspected(mut self) -> Head
         ensures value { header result ≡ suspected_header (header self) }
     {
-        Head {
-            used: self.used,
-            holds: self.holds,
-            count: self.count,
-            colour: Colour::Purple,
-            waiting: true,
-            next: self.next,
-        }
+        self.colour = Colour::Purple;
+        self.waiting = true;
+        self
     }
 
     // No longer waiting for a collection.
-    pub fn unlisted(self) -> Head
+    pub fn unlisted(mut self) -> Head
         ensures value { header result ≡ unlisted_header (header self) }
     {
-        Head {
-            used: self.used,
-            holds: self.holds,
-            count: self.count,
-            colour: self.colour,
-            waiting: false,
-            next: self.next,
-        }
+        self.waiting = false;
+        self
     }
 }

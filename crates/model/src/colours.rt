@@ -8,36 +8,24 @@ impl Colour {
     pub fn is_black(self) -> bool
         ensures value { result ≡ says_black self }
     {
-        match self {
-            Colour::Black => true,
-            _ => false,
-        }
+        self == Colour::Black
     }
 
     pub fn is_gray(self) -> bool
         ensures value { result ≡ says_gray self }
     {
-        match self {
-            Colour::Gray => true,
-            _ => false,
-        }
+        self == Colour::Gray
     }
 
     pub fn is_white(self) -> bool
         ensures value { result ≡ says_white self }
     {
-        match self {
-            Colour::White => true,
-            _ => false,
-        }
+        self == Colour::White
     }
 
     pub fn is_purple(self) -> bool
         ensures value { result ≡ says_purple self }
     {
-        match self {
-            Colour::Purple => true,
-            _ => false,
-        }
+        self == Colour::Purple
     }
 }

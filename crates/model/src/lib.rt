@@ -7,4 +7,5 @@ pub mod colours;
 pub mod fresh;
 pub mod heads;
 pub mod refusals;
+pub mod replies;
 pub mod taken;

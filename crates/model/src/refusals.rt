@@ -2,22 +2,22 @@
 ghost use Rattle.std.specs.Prelude.{◌≡◌};
 ghost use Rattle.model.specs.Refusals.{number_of};
 
-#[derive(Clone, Copy)]
+#[derive(Clone, Copy, PartialEq, Eq, Debug)]
 pub enum Refusal {
-    NoRecords,
-    WrongLengths,
-    NotHeld,
-    NoSuchField,
-    Full,
-    TooManyHolds,
-    ListNotEmpty,
-    OutputTooShort,
-    EndsEarly,
-    BreaksRule,
-    BytesFollow,
-    AbsentRecord,
-    NotReachable,
-    BadLine,
+    NoRecords = 1,
+    WrongLengths = 2,
+    NotHeld = 3,
+    NoSuchField = 4,
+    Full = 5,
+    TooManyHolds = 6,
+    ListNotEmpty = 7,
+    OutputTooShort = 8,
+    EndsEarly = 9,
+    BreaksRule = 10,
+    BytesFollow = 11,
+    AbsentRecord = 12,
+    NotReachable = 13,
+    BadLine = 14,
 }
 
 impl Refusal {
@@ -25,21 +25,6 @@ impl Refusal {
     pub fn number(self) -> u8
         ensures value { result ≡ number_of self }
     {
-        match self {
-            Refusal::NoRecords => 1,
-            Refusal::WrongLengths => 2,
-            Refusal::NotHeld => 3,
-            Refusal::NoSuchField => 4,
-            Refusal::Full => 5,
-            Refusal::TooManyHolds => 6,
-            Refusal::ListNotEmpty => 7,
-            Refusal::OutputTooShort => 8,
-            Refusal::EndsEarly => 9,
-            Refusal::BreaksRule => 10,
-            Refusal::BytesFollow => 11,
-            Refusal::AbsentRecord => 12,
-            Refusal::NotReachable => 13,
-            Refusal::BadLine => 14,
-        }
+        self as u8
     }
 }
