@@ -8,7 +8,8 @@ ghost use Rattle.model.specs.Lawful.{Lawful};
 ghost use Rattle.model.specs.Releasing.{FewGiven};
 ghost use Rattle.model.specs.Walk.{Progress};
 
-use reclaim::records::Records;
+use model::heads::Head;
+use reclaim::records::{Records, alter_head};
 use tracing::gather::Gather;
 use tracing::mark::Mark;
 use tracing::scan::Scan;
@@ -101,8 +102,7 @@ fn gather_one<S: Records>(store: &mut S, r: usize)
     ensures aside { S.Stacked.table store.new ≡ S.Stacked.table store.old }
     ensures lawful { S.Stacked.sound store.new }
 {
-    let head = store.read_head(r);
-    store.write_head(r, head.unlisted());
+    alter_head(store, r, Head::unlisted);
     walk::<S, Gather>(store, r, 0);
 }
 

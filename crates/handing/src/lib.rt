@@ -42,7 +42,7 @@ pub fn hold<S: Fields>(store: &mut S, r: usize) -> Result<usize, Refusal>
     if !is_held(store, r) {
         return Err(Refusal::NotHeld);
     }
-    let holds = store.read_head(r).holds as usize;
+    let holds = usize::from(store.read_head(r).holds);
     add_hold(store, r, holds + 1)
 }
 

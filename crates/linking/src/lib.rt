@@ -7,8 +7,9 @@ ghost use Rattle.model.specs.declared.calls.Reply.TheVariants.{Number, Done};
 ghost use Rattle.steps.specs.Keeping.{state, LawfulStore};
 ghost use Rattle.steps.specs.Replies.{loaded, leaving};
 
+use model::heads::Head;
 use model::refusals::Refusal;
-use reclaim::records::Records;
+use reclaim::records::{Records, alter_head};
 use steps::fields::Fields;
 use steps::freeing::{lower, raise};
 use steps::holding::{add_hold, is_held};
@@ -35,10 +36,7 @@ pub fn load_link<S: Fields>(store: &mut S, r: usize, l: usize) -> Result<Option<
     if t == 0 {
         return Ok(None);
     }
-    match add_hold(store, t, t) {
-        Ok(n) => Ok(Some(n)),
-        Err(why) => Err(why),
-    }
+    Ok(Some(add_hold(store, t, t)?))
 }
 
 // The new target is raised, the link is written, and then the old target is lowered.
@@ -65,8 +63,7 @@ pub fn let_go<S: Fields>(store: &mut S, r: usize) -> usize
     ensures lawful { LawfulStore S.Stacked S.Records.own store.new }
 {
     store.start();
-    let head = store.read_head(r);
-    store.write_head(r, head.held_less());
+    alter_head(store, r, Head::held_less);
     lower(store, r);
     store.given()
 }

@@ -1,12 +1,12 @@
 // What release and collection ask of a store.
-ghost use Rattle.std.specs.Prelude.{◌≤◌, ◌<◌, [], ◌≡◌, length, get_or, set, take};
+ghost use Rattle.std.specs.Prelude.{◌≤◌, ◌<◌, [], ◌≡◌, length, get_or, set, take, not, if◌then◌else◌};
 ghost use Rattle.kinds.specs.Rows.{Shape, blank as blank_row};
 ghost use Rattle.model.specs.Collection.{kept_listed, list_taken};
 ghost use Rattle.model.specs.Release.{moved, turn, given_up};
 ghost use Rattle.model.specs.State.{head, Within, with_row};
-ghost use Rattle.model.specs.Headers.{header};
+ghost use Rattle.model.specs.Headers.{header, painted};
 
-use model::heads::Head;
+use model::heads::{Colour, Head};
 use walks::stacked::Stacked;
 
 // A store whose records can be altered one part at a time. What is not named stays: the stack, and the table of the
@@ -77,4 +77,36 @@ pub trait Records: Stacked {
         ensures kept { Self.Stacked.stack self.new ≡ Self.Stacked.stack self.old }
         ensures aside { Self.Stacked.table self.new ≡ Self.Stacked.table self.old }
         ensures lawful { Self.Stacked.sound self.new };
+}
+
+// Reads the head of record `r`, alters it, and writes it back.
+pub fn alter_head<S: Records, F: FnOnce(Head) -> Head>(store: &mut S, r: usize, change: F)
+    requires lawful { S.Stacked.sound store.old }
+    requires named { Within (S.Stacked.progress store.old).store r }
+    requires allowed { (h : _) → header h ≡ head (S.Stacked.progress store.old).store r → F.pre change h }
+    ensures after { (old : _) × (new : _) × (header old ≡ head (S.Stacked.progress store.old).store r) × F.post change old new × (S.Stacked.progress store.new ≡ turn (S.Stacked.progress store.old) r (header new)) }
+    ensures kept { S.Stacked.stack store.new ≡ S.Stacked.stack store.old }
+    ensures aside { S.Stacked.table store.new ≡ S.Stacked.table store.old }
+    ensures lawful { S.Stacked.sound store.new }
+{
+    let head = store.read_head(r);
+    store.write_head(r, change(head));
+}
+
+// Paints record `r`, and says yes, unless it has that colour.
+pub fn repaint<S: Records>(store: &mut S, r: usize, colour: Colour) -> bool
+    requires lawful { S.Stacked.sound store.old }
+    requires named { Within (S.Stacked.progress store.old).store r }
+    ensures answer { result ≡ not (⟦<Colour as PartialEq>⟧.eq (head (S.Stacked.progress store.old).store r).colour colour) }
+    ensures after { S.Stacked.progress store.new ≡ (if result then turn (S.Stacked.progress store.old) r (painted colour (head (S.Stacked.progress store.old).store r)) else S.Stacked.progress store.old) }
+    ensures kept { S.Stacked.stack store.new ≡ S.Stacked.stack store.old }
+    ensures aside { S.Stacked.table store.new ≡ S.Stacked.table store.old }
+    ensures lawful { S.Stacked.sound store.new }
+{
+    let head = store.read_head(r);
+    if head.colour == colour {
+        return false;
+    }
+    store.write_head(r, head.painted(colour));
+    true
 }

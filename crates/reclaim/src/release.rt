@@ -4,8 +4,8 @@ ghost use Rattle.model.specs.Release.{suspect as suspect_of, released as release
 ghost use Rattle.model.specs.Releasing.{Releasing, FewGiven, counted_room, counted_open};
 ghost use Rattle.model.specs.State.{head, Within};
 
-use crate::records::Records;
-use model::heads::Colour;
+use crate::records::{Records, alter_head};
+use model::heads::{Colour, Head};
 use walks::stacked::Stacked;
 use walks::steps::Walk;
 
@@ -62,8 +62,7 @@ impl<S: Records> Walk<S> for Release {
     ghost spare = { λ _. 0 };
 
     fn follow(store: &mut S, t: usize) {
-        let head = store.read_head(t);
-        store.write_head(t, head.lessened());
+        alter_head(store, t, Head::lessened);
     }
 
     fn visit(store: &mut S, t: usize, _base: usize) -> bool {

@@ -11,7 +11,7 @@ ghost use Rattle.steps.specs.Replies.{leaving};
 
 use crate::fields::Fields;
 use model::heads::Head;
-use reclaim::records::Records;
+use reclaim::records::{Records, alter_head};
 use reclaim::release::Release;
 use walks::run::walk;
 use walks::stacked::Stacked;
@@ -26,7 +26,7 @@ pub fn take_front<S: Fields>(store: &mut S, r: usize)
 {
     let next = store.read_head(r).next;
     store.write_head(r, Head::made());
-    store.set_front(next as usize);
+    store.set_front(usize::from(next));
 }
 
 // Lowers record `t`, to which one reference is still counted that is gone; 0 names none.
@@ -59,6 +59,5 @@ pub fn raise<S: Fields>(store: &mut S, t: usize)
     if t == 0 {
         return;
     }
-    let head = store.read_head(t);
-    store.write_head(t, head.raised());
+    alter_head(store, t, Head::raised);
 }

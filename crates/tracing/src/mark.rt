@@ -2,8 +2,8 @@
 ghost use Rattle.model.specs.Collection.{marking};
 ghost use Rattle.model.specs.Colouring.{Marking, ungray, open_room, open_once};
 
-use model::heads::Colour;
-use reclaim::records::Records;
+use model::heads::{Colour, Head};
+use reclaim::records::{Records, alter_head, repaint};
 use walks::stacked::Stacked;
 use walks::steps::Walk;
 
@@ -23,17 +23,11 @@ impl<S: Records> Walk<S> for Mark {
     ghost apart = { λ l. l };
 
     fn follow(store: &mut S, t: usize) {
-        let head = store.read_head(t);
-        store.write_head(t, head.lessened());
+        alter_head(store, t, Head::lessened);
     }
 
     fn visit(store: &mut S, t: usize, _base: usize) -> bool {
-        let head = store.read_head(t);
-        if head.colour.is_gray() {
-            return false;
-        }
-        store.write_head(t, head.painted(Colour::Gray));
-        true
+        repaint(store, t, Colour::Gray)
     }
 
     fn leave(_store: &mut S, _t: usize) {}

@@ -3,8 +3,8 @@ ghost use Rattle.model.specs.Collection.{restoring};
 ghost use Rattle.model.specs.Colouring.{Restoring, unblack, open_room, open_once};
 ghost use Rattle.tracing.specs.Widths.{Narrow};
 
-use model::heads::Colour;
-use reclaim::records::Records;
+use model::heads::{Colour, Head};
+use reclaim::records::{Records, alter_head, repaint};
 use walks::stacked::Stacked;
 use walks::steps::Walk;
 
@@ -24,17 +24,11 @@ impl<S: Records> Walk<S> for Restore {
     ghost apart = { λ l. l };
 
     fn follow(store: &mut S, t: usize) {
-        let head = store.read_head(t);
-        store.write_head(t, head.more());
+        alter_head(store, t, Head::more);
     }
 
     fn visit(store: &mut S, t: usize, _base: usize) -> bool {
-        let head = store.read_head(t);
-        if head.colour.is_black() {
-            return false;
-        }
-        store.write_head(t, head.painted(Colour::Black));
-        true
+        repaint(store, t, Colour::Black)
     }
 
     fn leave(_store: &mut S, _t: usize) {}

@@ -4,7 +4,7 @@ use Rattle.model.specs.Lawful.{Lawful}
 use Rattle.model.specs.Release.{lower, turn}
 use Rattle.model.specs.Releasing.{Releasing, FewGiven}
 use Rattle.model.specs.State.{head, with_head}
-use Rattle.model.specs.Headers.{header, held_less}
+use Rattle.model.specs.Headers.{held_less}
 use Rattle.model.specs.Walk.Task.{follow}
 use Rattle.model.specs.declared.calls.Reply.TheVariants.{Number}
 use Rattle.model.proofs.Accepted.{asked_yes}
@@ -14,6 +14,7 @@ use Rattle.model.proofs.Owing.{owing_drop}
 use Rattle.steps.specs.Keeping.{state}
 use Rattle.steps.specs.Replies.{leaving}
 use Rattle.steps.proofs.Keeps.{keeping_on, few_start, lower_size}
+use Rattle.reclaim.proofs.Turned.{turned}
 use Rattle.linking.proofs.let_go.Goals as goal
 
 pub lower-requires : goal.lower-requires
@@ -22,13 +23,11 @@ lower-requires g c =
     let S = g.S.Stacked in
     let v = state S c.args.store.now in
     let r = c.args.r in
-    let begun : S.progress c.write_head.new.self ≡ started (with_head v r (held_less (head v r))) =
-    c.write_head.ensures.after ∙ ap (λ y. turn y r (header c.held_less.result)) c.start.ensures.after
-    ∙ ap (turn (started v) r)
-    (c.held_less.ensures.value ∙ ap held_less (c.read_head-head.ensures.value ∙ ap (λ y. head y.store r) c.start.ensures.after)) in
+    let begun : S.progress c.alter_head.new.store ≡ started (with_head v r (held_less (head v r))) =
+    turned held_less _ _ r (λ a b p. p.1) c.alter_head.ensures.after ∙ ap (λ y. turn y r (held_less (head y.store r))) c.start.ensures.after in
     let owing = owing_drop k v r c.requires.lawful.keeping.rules (held_from_test v r c.requires.held) in
     record {
-      lawful = c.write_head.ensures.lawful;
+      lawful = c.alter_head.ensures.lawful;
       owing = subst (λ y. Releasing k y (follow r ∷ [])) (sym begun) owing;
       few = subst FewGiven (sym begun) (few_start k (with_head v r (held_less (head v r))) (follow r ∷ []) owing);
       narrow = c.requires.lawful.keeping.narrow;
@@ -37,7 +36,7 @@ lower-requires g c =
             arith,
             c.requires.lawful.keeping.work_room,
             ap (λ y. length y.store.rows) begun,
-            ap length c.write_head.ensures.kept,
+            ap length c.alter_head.ensures.kept,
             ap length c.start.ensures.kept,
           );
     }
@@ -48,10 +47,8 @@ returns g c =
     let S = g.S.Stacked in
     let v = state S c.args.store.now in
     let r = c.args.r in
-    let begun : S.progress c.write_head.new.self ≡ started (with_head v r (held_less (head v r))) =
-    c.write_head.ensures.after ∙ ap (λ y. turn y r (header c.held_less.result)) c.start.ensures.after
-    ∙ ap (turn (started v) r)
-    (c.held_less.ensures.value ∙ ap held_less (c.read_head-head.ensures.value ∙ ap (λ y. head y.store r) c.start.ensures.after)) in
+    let begun : S.progress c.alter_head.new.store ≡ started (with_head v r (held_less (head v r))) =
+    turned held_less _ _ r (λ a b p. p.1) c.alter_head.ensures.after ∙ ap (λ y. turn y r (held_less (head y.store r))) c.start.ensures.after in
     let owing = owing_drop k v r c.requires.lawful.keeping.rules (held_from_test v r c.requires.held) in
     let after = c.lower.ensures.after ∙ ap (λ y. lower k y r) begun in
     record {
@@ -64,6 +61,6 @@ returns g c =
             keeping_on k S.width v (state S c.lower.new.store) _ _ c.requires.lawful.keeping
             (subst (λ y. Lawful k y.store) (sym after) (lawful_lower k (started (with_head v r (held_less (head v r)))) r owing))
             (ap (λ y. length y.store.rows) after ∙ lower_size k (started (with_head v r (held_less (head v r)))) r owing)
-            (c.lower.ensures.wide ∙ ap length c.write_head.ensures.kept ∙ ap length c.start.ensures.kept);
+            (c.lower.ensures.wide ∙ ap length c.alter_head.ensures.kept ∙ ap length c.start.ensures.kept);
       };
     }

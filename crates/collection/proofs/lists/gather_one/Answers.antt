@@ -1,4 +1,4 @@
-use Rattle.std.proofs.Common.{◌≡◌, [], ◌∷◌, length, sym, ap, ◌∙◌, subst, arith}
+use Rattle.std.proofs.Common.{◌≡◌, [], ◌∷◌, length, sym, ap, subst, arith}
 use Rattle.model.specs.Headers.{unlisted}
 use Rattle.model.specs.Collection.{gathering}
 use Rattle.model.specs.Colouring.{Gathering, white, open_room}
@@ -7,6 +7,7 @@ use Rattle.model.specs.Releasing.{FewGiven}
 use Rattle.model.specs.Walk.{Keeps}
 use Rattle.model.specs.Walk.Task.{visit}
 use Rattle.model.proofs.Gathers.{gathering_keeps, gathering_opens}
+use Rattle.reclaim.proofs.Turned.{turned}
 use Rattle.collection.proofs.lists.gather_one.Goals as goal
 
 pub walk-requires : goal.walk-requires
@@ -14,13 +15,13 @@ walk-requires g c =
     let k = g.S.Records.shape in
     let y = g.S.Stacked.progress c.args.store.now in
     let r = c.args.r in
-    let e : g.S.Stacked.progress c.write_head.new.self ≡ turn y r (unlisted (at y r)) =
-    c.write_head.ensures.after ∙ ap (turn y r) (c.unlisted.ensures.value ∙ ap unlisted c.read_head-head.ensures.value) in
+    let e : g.S.Stacked.progress c.alter_head.new.store ≡ turn y r (unlisted (at y r)) =
+    turned unlisted y _ r (λ a b p. p.1) c.alter_head.ensures.after in
     let I = c.requires.serving in
     record {
-      lawful = (c.write_head.ensures.lawful, subst (λ z. Gathering k z (visit r ∷ []) × FewGiven z) (sym e) (I.walks, I.few_given));
+      lawful = (c.alter_head.ensures.lawful, subst (λ z. Gathering k z (visit r ∷ []) × FewGiven z) (sym e) (I.walks, I.few_given));
       keeps = subst (λ p. Keeps p (gathering k) (λ z Q. Gathering k z Q × FewGiven z) (open_room white)) (sym c.requires.narrow.0) (gathering_keeps k);
       opens = gathering_opens k;
       few = omega (arith, ap (λ z. length z.store.rows) e, I.walks.sized.few);
-      stack = omega (arith, ap (λ z. length z.store.rows) e, ap length c.write_head.ensures.kept, c.requires.stack);
+      stack = omega (arith, ap (λ z. length z.store.rows) e, ap length c.alter_head.ensures.kept, c.requires.stack);
     }

@@ -3,12 +3,12 @@ use native.Mathlib.Omega.{arith}
 use Rattle.model.proofs.Restores.{restoring_small}
 use Rattle.tracing.proofs.restore.RestoreWalk.follow.Goals as goal
 
-pub more-requires : goal.more-requires
-more-requires g c =
+pub alter_head-requires-clause-allowed : goal.alter_head-requires-clause-allowed
+alter_head-requires-clause-allowed g c =
     let y = g.S.Stacked.progress c.args.store.now in
     let ready = c.requires.lawful.1 in
-    omega (
+    λ h e. omega (
       arith,
-      ap (λ h. h.count) c.read_head-head.ensures.value,
+      ap (λ x. x.count) e,
       restoring_small g.S.Records.shape y c.args.t ready.rest c.requires.named ready.fits.0 ready.fits.1.1,
     )
