@@ -3,15 +3,21 @@ use kinds::kind::Kind;
 use kinds::pair::Pair;
 use model::calls::{Call, Reply};
 use model::heads::Head;
+use model::refusals::Refusal;
 use store::plays::play;
 
-// The number of a reply; a refusal counts from 100,000 on.
-fn code(reply: Reply) -> usize {
-    match reply {
-        Reply::Number(n) => n,
-        Reply::Nothing | Reply::Done => 0,
-        Reply::Refused(why) => 100000 + why.number() as usize,
-    }
+// The replies to the calls on a new store of N pairs with W numbers in its work table.
+fn replies<const N: usize, const W: usize, const M: usize>(calls: &[Call; M]) -> [Reply; M] {
+    let mut replies = [Reply::Done; M];
+    play(
+        &mut [Pair::blank(); N],
+        &mut [Head::free(0); N],
+        &mut [0u16; N],
+        &mut [0u32; W],
+        calls,
+        &mut replies,
+    );
+    replies
 }
 
 // A collection on no record, and a ring of one on a store of one.
@@ -23,41 +29,16 @@ fn least_collections(rt: HostRuntime) {
         Call::Drop(1),
         Call::Collect,
     ];
-    let mut replies = [Reply::Done; 4];
-    play(
-        &mut [Pair::blank(); 0],
-        &mut [Head::free(0); 0],
-        &mut [0u16; 0],
-        &mut [0u32; 0],
-        &calls,
-        &mut replies,
-    );
     assert_eq!(rt;
+        replies::<0, 0, 4>(&calls),
         [
-            code(replies[0]),
-            code(replies[1]),
-            code(replies[2]),
-            code(replies[3]),
-        ],
-        [100005, 100003, 100003, 0]
+            Reply::Refused(Refusal::Full),
+            Reply::Refused(Refusal::NotHeld),
+            Reply::Refused(Refusal::NotHeld),
+            Reply::Number(0),
+        ]
     );
-    play(
-        &mut [Pair::blank(); 1],
-        &mut [Head::free(0); 1],
-        &mut [0u16; 1],
-        &mut [0u32; 2],
-        &calls,
-        &mut replies,
-    );
-    assert_eq!(rt;
-        [
-            code(replies[0]),
-            code(replies[1]),
-            code(replies[2]),
-            code(replies[3]),
-        ],
-        [1, 0, 0, 1]
-    );
+    assert_eq!(rt; replies::<1, 2, 4>(&calls), [1, 0, 0, 1].map(Reply::Number));
 }
 
 // A ring of 1 and 2 of which 2 stays held: it is not collected, and its links and bytes are as they were.
@@ -80,25 +61,23 @@ fn survivors(rt: HostRuntime) {
         Call::Look(1, 0),
         Call::Look(2, 0),
     ];
-    let mut replies = [Reply::Done; 15];
-    play(
-        &mut [Pair::blank(); 2],
-        &mut [Head::free(0); 2],
-        &mut [0u16; 2],
-        &mut [0u32; 4],
-        &calls,
-        &mut replies,
-    );
+    let replies = replies::<2, 4, 15>(&calls);
     // given up, in use; links 0 and 1 of record 2, then of record 1; the bytes of both
-    assert_eq!(rt; [code(replies[7]), code(replies[8])], [0, 2]);
     assert_eq!(rt;
-        [
-            code(replies[9]),
-            code(replies[10]),
-            code(replies[11]),
-            code(replies[12]),
-        ],
-        [0, 1, 2, 0]
+        [replies[7], replies[8]],
+        [Reply::Number(0), Reply::Number(2)]
     );
-    assert_eq!(rt; [code(replies[13]), code(replies[14])], [255, 9]);
+    assert_eq!(rt;
+        [replies[9], replies[10], replies[11], replies[12]],
+        [
+            Reply::Nothing,
+            Reply::Number(1),
+            Reply::Number(2),
+            Reply::Nothing,
+        ]
+    );
+    assert_eq!(rt;
+        [replies[13], replies[14]],
+        [Reply::Number(255), Reply::Number(9)]
+    );
 }

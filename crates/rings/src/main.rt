@@ -11,36 +11,9 @@ use store::plays::play;
 
 mod sessions;
 
-fn print_call(rt: &impl Print, call: Call) -> io::Result<()> {
-    match call {
-        Call::Make => print!(rt; "make"),
-        Call::Hold(r) => print!(rt; "hold {r}"),
-        Call::Load(r, l) => print!(rt; "load {r} {l}"),
-        Call::Link(r, l, t) => print!(rt; "link {r} {l} {t}"),
-        Call::Byte(r, b, v) => print!(rt; "byte {r} {b} {v}"),
-        Call::Look(r, b) => print!(rt; "look {r} {b}"),
-        Call::Drop(r) => print!(rt; "drop {r}"),
-        Call::Collect => print!(rt; "collect"),
-        Call::Tally => print!(rt; "tally"),
-    }
-}
-
-fn print_reply(rt: &impl Print, reply: Reply) -> io::Result<()> {
-    match reply {
-        Reply::Number(n) => println!(rt; " -> {n}"),
-        Reply::Nothing => println!(rt; " -> none"),
-        Reply::Done => println!(rt; " -> done"),
-        Reply::Refused(why) => {
-            let number = why.number();
-            println!(rt; " -> refused {number}")
-        }
-    }
-}
-
 fn print_all(rt: &impl Print, calls: &[Call], replies: &[Reply]) -> io::Result<()> {
-    for (call, reply) in calls.iter().zip(replies.iter()) {
-        print_call(rt, *call)?;
-        print_reply(rt, *reply)?;
+    for (call, reply) in calls.iter().zip(replies) {
+        println!(rt; "{call} -> {reply}")?;
     }
     Ok(())
 }

@@ -3,70 +3,59 @@ use kinds::kind::Kind;
 use kinds::pair::Pair;
 use model::calls::{Call, Reply};
 use model::heads::Head;
+use model::refusals::Refusal;
 use store::makes::test_tables;
 use store::plays::play;
 
-// The number of a reply; a refusal counts from 100,000 on.
-fn code(reply: Reply) -> usize {
-    match reply {
-        Reply::Number(n) => n,
-        Reply::Nothing | Reply::Done => 0,
-        Reply::Refused(why) => 100000 + why.number() as usize,
-    }
+// The replies to the calls on a new store of N pairs with W numbers in its work table.
+fn replies<const N: usize, const W: usize, const M: usize>(calls: &[Call; M]) -> [Reply; M] {
+    let mut replies = [Reply::Done; M];
+    play(
+        &mut [Pair::blank(); N],
+        &mut [Head::free(0); N],
+        &mut [0u16; N],
+        &mut [0u32; W],
+        calls,
+        &mut replies,
+    );
+    replies
 }
 
 // Over tables that do not fit there is no record, and one record is soon taken.
 #[test]
 fn none_and_one(rt: HostRuntime) {
     let calls = [Call::Make, Call::Make, Call::Hold(1), Call::Tally];
-    let mut replies = [Reply::Done; 4];
-    play(
-        &mut [Pair::blank(); 1],
-        &mut [Head::free(0); 1],
-        &mut [0u16; 1],
-        &mut [0u32; 1],
-        &calls,
-        &mut replies,
-    );
+    let none = replies::<1, 1, 4>(&calls);
     assert_eq!(rt;
-        [code(replies[0]), code(replies[2]), code(replies[3])],
-        [100005, 100003, 0]
-    );
-    play(
-        &mut [Pair::blank(); 1],
-        &mut [Head::free(0); 1],
-        &mut [0u16; 1],
-        &mut [0u32; 2],
-        &calls,
-        &mut replies,
-    );
-    assert_eq!(rt;
+        [none[0], none[2], none[3]],
         [
-            code(replies[0]),
-            code(replies[1]),
-            code(replies[2]),
-            code(replies[3]),
-        ],
-        [1, 100005, 2, 1]
+            Reply::Refused(Refusal::Full),
+            Reply::Refused(Refusal::NotHeld),
+            Reply::Number(0),
+        ]
+    );
+    assert_eq!(rt;
+        replies::<1, 2, 4>(&calls),
+        [
+            Reply::Number(1),
+            Reply::Refused(Refusal::Full),
+            Reply::Number(2),
+            Reply::Number(1),
+        ]
     );
 }
 
 // 4,095 records, and the make that finds none free.
 #[test]
 fn most_records(rt: HostRuntime) {
-    let calls = [Call::Make; 4096];
-    let mut replies = [Reply::Done; 4096];
-    play(
-        &mut [Pair::blank(); 4095],
-        &mut [Head::free(0); 4095],
-        &mut [0u16; 4095],
-        &mut [0u32; 8190],
-        &calls,
-        &mut replies,
-    );
+    let replies = replies::<4095, 8190, 4096>(&[Call::Make; 4096]);
     assert_eq!(rt;
-        [code(replies[0]), code(replies[4094]), code(replies[4095])],
-        [1, 4095, 100005]
+        [replies[0], replies[4094], replies[4095]],
+        [
+            Reply::Number(1),
+            Reply::Number(4095),
+            Reply::Refused(Refusal::Full),
+        ]
     );
 }
 
@@ -75,18 +64,28 @@ fn most_records(rt: HostRuntime) {
 fn most_holds(rt: HostRuntime) {
     let mut calls = [Call::Hold(1); 1001];
     calls[0] = Call::Make;
-    let mut replies = [Reply::Done; 1001];
-    play(
-        &mut [Pair::blank(); 1],
-        &mut [Head::free(0); 1],
-        &mut [0u16; 1],
-        &mut [0u32; 2],
-        &calls,
-        &mut replies,
-    );
+    let replies = replies::<1, 2, 1001>(&calls);
     assert_eq!(rt;
-        [code(replies[1]), code(replies[999]), code(replies[1000])],
-        [2, 1000, 100006]
+        [replies[1], replies[999], replies[1000]],
+        [
+            Reply::Number(2),
+            Reply::Number(1000),
+            Reply::Refused(Refusal::TooManyHolds),
+        ]
+    );
+}
+
+// The numbers by which the box says a refusal.
+#[test]
+fn refusals(rt: HostRuntime) {
+    assert_eq!(rt;
+        [
+            Refusal::NotHeld.number(),
+            Refusal::Full.number(),
+            Refusal::TooManyHolds.number(),
+            Refusal::BadLine.number(),
+        ],
+        [3, 5, 6, 14]
     );
 }
 
