@@ -7,6 +7,11 @@ use kinds::kind::Kind;
 use model::calls::{Call, Reply};
 use store::table::Store;
 
+// The number that names no record: a link to it is an empty one, and a call on it is refused.
+pub(crate) const NO_RECORD: usize = 0;
+
+// That the store is lawful stands in each contract and not in a ghost field here: such a field must be a fact with one proof
+// at most, and `LawfulStore` has as many as there are ways along links by which a record can be come to.
 #[derive(Drop)]
 pub(crate) struct Host<'a, K> {
     pub(crate) store: Store<'a, K>,
@@ -14,7 +19,12 @@ pub(crate) struct Host<'a, K> {
     pub(crate) totals: Totals,
 }
 
-// The byte that record `r` is marked with in a round.
+// The byte of record `r` that has its mark.
+fn marked_byte<K: Kind>(r: usize) -> usize {
+    r % K::numbers().bytes.max(1)
+}
+
+// What record `r` is marked with in a round.
 fn mark(r: usize, round: usize) -> u8 {
     (r.wrapping_mul(31).wrapping_add(round) & 255) as u8
 }
@@ -27,7 +37,7 @@ impl<'a, K: Kind> Host<'a, K> {
         Host {
             store,
             dice: Dice::new(seed),
-            totals: Totals::new(),
+            totals: Totals::default(),
         }
     }
 
@@ -41,14 +51,14 @@ impl<'a, K: Kind> Host<'a, K> {
         reply
     }
 
-    // The number that a call answers; 0 where it answers none.
-    pub(crate) fn number(&mut self, call: Call) -> usize
+    // The number that a call answers, where it answers one.
+    pub(crate) fn number(&mut self, call: Call) -> Option<usize>
         requires lawful { LawfulStore K.Kind self.old.store }
         ensures lawful { LawfulStore K.Kind self.new.store }
     {
         match self.call(call) {
-            Reply::Number(n) => n,
-            _ => 0,
+            Reply::Number(n) => Some(n),
+            _ => None,
         }
     }
 
@@ -57,9 +67,8 @@ impl<'a, K: Kind> Host<'a, K> {
         requires lawful { LawfulStore K.Kind self.old.store }
         ensures lawful { LawfulStore K.Kind self.new.store }
     {
-        let r = self.number(Call::Make);
-        let width = K::numbers().bytes.max(1);
-        self.call(Call::Byte(r, r % width, mark(r, round)));
+        let r = self.number(Call::Make).unwrap_or(NO_RECORD);
+        self.call(Call::Byte(r, marked_byte::<K>(r), mark(r, round)));
         r
     }
 
@@ -68,21 +77,18 @@ impl<'a, K: Kind> Host<'a, K> {
         requires lawful { LawfulStore K.Kind self.old.store }
         ensures lawful { LawfulStore K.Kind self.new.store }
     {
-        let width = K::numbers().bytes.max(1);
-        match self.call(Call::Look(r, r % width)) {
-            Reply::Number(v) => v == mark(r, round) as usize,
-            _ => false,
-        }
+        let found = self.number(Call::Look(r, marked_byte::<K>(r)));
+        found == Some(usize::from(mark(r, round)))
     }
 
     // Collects, and answers the records in use once makes are held against them.
-    pub(crate) fn collect(&mut self) -> usize
+    pub(crate) fn collect(&mut self) -> Option<usize>
         requires lawful { LawfulStore K.Kind self.old.store }
         ensures lawful { LawfulStore K.Kind self.new.store }
     {
         self.call(Call::Collect);
-        let in_use = self.number(Call::Tally);
+        let in_use = self.number(Call::Tally)?;
         self.totals.weigh(in_use);
-        in_use
+        Some(in_use)
     }
 }
