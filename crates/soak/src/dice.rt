@@ -21,7 +21,7 @@ impl Dice {
             .state
             .wrapping_mul(6364136223846793005)
             .wrapping_add(1442695040888963407);
-        // the upper half: the lower bits of such a generator repeat soon
+        // the upper half: the lower bits of such a generator repeat soon. `as`, since no From goes from a u64 to a usize
         let drawn = (self.state >> 32) as usize;
         drawn.checked_rem(sides).unwrap_or(0)
     }
@@ -31,12 +31,12 @@ impl Dice {
         self.roll(times) == 0
     }
 
-    // One of the records; none where there is none.
+    // One of the records; None where there is none.
     pub(crate) fn choose(&mut self, records: &[usize]) -> Option<usize> {
         records.get(self.roll(records.len())).copied()
     }
 
-    // Swaps the record at each place with that at a drawn one.
+    // Swaps the record at each place with that at a drawn one. It goes by places, since a swap names both.
     pub(crate) fn shuffle(&mut self, records: &mut [usize]) {
         for place in 0..records.len() {
             records.swap(place, self.roll(records.len()));

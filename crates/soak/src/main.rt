@@ -30,9 +30,8 @@ fn soak<K: Kind>(rt: &impl Print, records: &mut [K], seed: u64) -> io::Result<()
     for round in 0..ROUNDS {
         host.play_round(&mut places, round);
     }
-    host.totals.in_use = host.store.tally();
     println!(rt; "rounds {ROUNDS}")?;
-    println!(rt; "{}", host.totals)
+    println!(rt; "{}", host.finish())
 }
 
 fn main(rt: HostRuntime) -> io::Result<()> {

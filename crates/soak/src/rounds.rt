@@ -1,6 +1,5 @@
 // One round: a store is filled, its records are tied to each other, let go and collected, and nothing is left.
 ghost use Rattle.std.specs.Prelude.{◌<◌};
-ghost use Rattle.store.specs.View.{LawfulStore};
 
 use crate::dice::Dice;
 use crate::host::{Host, NO_RECORD};
@@ -52,23 +51,18 @@ impl Shape {
     }
 }
 
-// What a host does in a round. `made` are the records that it made then, in a drawn order.
+// What a host does in a round. `made` are the records that it makes then. A struct of the host, them and the round's number
+// would be no plainer: each call would go through its field, and the number serves only two methods.
 impl<K: Kind> Host<'_, K> {
     // Makes a marked record for each place.
-    fn fill(&mut self, made: &mut [usize], round: usize)
-        requires lawful { LawfulStore K.Kind self.old.store }
-        ensures lawful { LawfulStore K.Kind self.new.store }
-    {
+    fn fill(&mut self, made: &mut [usize], round: usize) {
         for place in made {
             *place = self.make_marked(round);
         }
     }
 
     // Links each record by its first link as the shape says.
-    fn tie(&mut self, made: &[usize], shape: Shape)
-        requires lawful { LawfulStore K.Kind self.old.store }
-        ensures lawful { LawfulStore K.Kind self.new.store }
-    {
+    fn tie(&mut self, made: &[usize], shape: Shape) {
         for (i, &r) in made.iter().enumerate() {
             let drawn = self.dice.roll(made.len());
             let next = shape.next_place(i, made.len(), drawn);
@@ -77,10 +71,7 @@ impl<K: Kind> Host<'_, K> {
     }
 
     // Links some records by any of their links to any other; a first link that goes may part a ring.
-    fn cross(&mut self, made: &[usize])
-        requires lawful { LawfulStore K.Kind self.old.store }
-        ensures lawful { LawfulStore K.Kind self.new.store }
-    {
+    fn cross(&mut self, made: &[usize]) {
         for &r in made {
             if self.dice.once_in(3) {
                 let link = self.dice.roll(K::numbers().links);
@@ -91,10 +82,7 @@ impl<K: Kind> Host<'_, K> {
     }
 
     // Ties the records in a drawn way.
-    fn tie_all(&mut self, made: &[usize])
-        requires lawful { LawfulStore K.Kind self.old.store }
-        ensures lawful { LawfulStore K.Kind self.new.store }
-    {
+    fn tie_all(&mut self, made: &[usize]) {
         let shape = Shape::draw(&mut self.dice);
         self.tie(made, shape);
         if self.dice.once_in(2) {
@@ -103,10 +91,7 @@ impl<K: Kind> Host<'_, K> {
     }
 
     // Drops every record, with a collection now and then.
-    fn let_go(&mut self, made: &[usize])
-        requires lawful { LawfulStore K.Kind self.old.store }
-        ensures lawful { LawfulStore K.Kind self.new.store }
-    {
+    fn let_go(&mut self, made: &[usize]) {
         for &r in made {
             self.call(Call::Drop(r));
             if self.dice.once_in(32) {
@@ -117,10 +102,7 @@ impl<K: Kind> Host<'_, K> {
 
     // Goes from a held record along links, mostly first ones, and says whether each record that it came to had its mark. One
     // hold goes along, and is dropped at the end.
-    fn stroll(&mut self, from: usize, steps: usize, round: usize) -> bool
-        requires lawful { LawfulStore K.Kind self.old.store }
-        ensures lawful { LawfulStore K.Kind self.new.store }
-    {
+    fn stroll(&mut self, from: usize, steps: usize, round: usize) -> bool {
         self.call(Call::Hold(from));
         let mut at = from;
         let mut marked = self.is_marked(from, round);
@@ -142,10 +124,7 @@ impl<K: Kind> Host<'_, K> {
 
     // One record is held outside the rings and links into them, now and then to nothing. What hangs on it lives on, with its
     // marks, until it is dropped.
-    pub(crate) fn play_round(&mut self, places: &mut [usize], round: usize)
-        requires lawful { LawfulStore K.Kind self.old.store }
-        ensures lawful { LawfulStore K.Kind self.new.store }
-    {
+    pub(crate) fn play_round(&mut self, places: &mut [usize], round: usize) {
         let size = self.dice.roll(places.len());
         let made = &mut places[..size];
         let outside = self.make_marked(round);

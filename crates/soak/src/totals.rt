@@ -2,7 +2,7 @@
 use model::calls::{Call, Reply};
 use std::fmt;
 
-// A number into which replies are folded in order, so that other replies leave another number.
+// All replies so far, in order, folded into one number.
 #[derive(Clone, Copy)]
 struct Digest(u64);
 
@@ -12,7 +12,8 @@ impl Default for Digest {
     }
 }
 
-// A number for each reply: other replies have other numbers. No `From` can say it, since neither type is of this crate.
+// A number for each reply: other replies have other numbers. This is no `impl From`, since neither type is of this crate; nor
+// does a From go from a usize to a u64.
 fn code(reply: Reply) -> u64 {
     match reply {
         Reply::Number(n) => (n as u64).wrapping_mul(4),
@@ -30,25 +31,25 @@ impl Digest {
 
 #[derive(Default, Drop)]
 pub(crate) struct Totals {
-    calls: u64,
+    calls: usize,
     // makes that were not refused
-    makes: u64,
+    makes: usize,
     // give-ups that links, drops and collections reported
-    given: u64,
+    given: usize,
     // how often makes were held against records in use and give-ups, and how often they were equal
-    checks: u64,
-    balanced: u64,
+    checks: usize,
+    balanced: usize,
     // rounds in which all that was looked at had its bytes, and rounds that left no record in use
-    survived: u64,
-    emptied: u64,
+    survived: usize,
+    emptied: usize,
     // records in use at the end
     pub(crate) in_use: usize,
     digest: Digest,
 }
 
 // One more where the fact holds.
-fn counted(so_far: u64, fact: bool) -> u64 {
-    so_far.wrapping_add(u64::from(fact))
+fn counted(so_far: usize, fact: bool) -> usize {
+    so_far.wrapping_add(usize::from(fact))
 }
 
 impl Totals {
@@ -59,7 +60,7 @@ impl Totals {
         match (call, reply) {
             (Call::Make, Reply::Number(_)) => self.makes = self.makes.wrapping_add(1),
             (Call::Link(..) | Call::Drop(_) | Call::Collect, Reply::Number(n)) => {
-                self.given = self.given.wrapping_add(n as u64);
+                self.given = self.given.wrapping_add(n);
             }
             _ => {}
         }
@@ -67,7 +68,7 @@ impl Totals {
 
     // Holds the makes against the records in use and the give-ups.
     pub(crate) fn weigh(&mut self, in_use: usize) {
-        let balanced = self.makes == self.given.wrapping_add(in_use as u64);
+        let balanced = self.makes == self.given.wrapping_add(in_use);
         self.checks = self.checks.wrapping_add(1);
         self.balanced = counted(self.balanced, balanced);
     }
