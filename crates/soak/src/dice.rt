@@ -21,7 +21,7 @@ impl Dice {
             .state
             .wrapping_mul(6364136223846793005)
             .wrapping_add(1442695040888963407);
-        // the upper half: the lower bits of such a generator repeat soon. `as`, since no From goes from a u64 to a usize
+        // the upper half: the lower bits of such a generator repeat soon. `as`, since no From goes from u64 to usize
         let drawn = (self.state >> 32) as usize;
         drawn.checked_rem(sides).unwrap_or(0)
     }

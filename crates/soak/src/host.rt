@@ -20,7 +20,7 @@ pub(crate) struct Host<'a, K: Kind> {
 
 // The store of every host is lawful. This is no ghost field, since such a field must be a fact with one proof at most, and a
 // lawful store has as many as there are ways along links by which its records can be come to. No contract speaks of what a
-// host holds, so that its value is empty.
+// host holds, so its value is empty.
 impl<'a, K: Kind> Model for Host<'a, K> {
     ghost Value = { Unit {0} };
 
@@ -34,9 +34,10 @@ fn marked_byte<K: Kind>(r: usize) -> usize {
     r % K::numbers().bytes.max(1)
 }
 
-// What record `r` is marked with in a round: a low byte, to which no From goes, so by `as`.
+// What record `r` is marked with in a round: a low byte.
 fn mark(r: usize, round: usize) -> u8 {
-    (r.wrapping_mul(31).wrapping_add(round) & 255) as u8
+    let [low, ..] = r.wrapping_mul(31).wrapping_add(round).to_le_bytes();
+    low
 }
 
 impl<'a, K: Kind> Host<'a, K> {

@@ -13,7 +13,7 @@ impl Default for Digest {
 }
 
 // A number for each reply: other replies have other numbers. This is no `impl From`, since neither type is of this crate; nor
-// does a From go from a usize to a u64.
+// does a From go from usize to u64, so `as` stands here.
 fn code(reply: Reply) -> u64 {
     match reply {
         Reply::Number(n) => (n as u64).wrapping_mul(4),
