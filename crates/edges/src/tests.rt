@@ -1,4 +1,6 @@
 // What a collection leaves of stores at the ends of what is allowed.
+ghost use Rattle.std.specs.Prelude.{◌≤◌};
+
 use kinds::kind::Kind;
 use kinds::pair::Pair;
 use model::calls::{Call, Reply};
@@ -7,7 +9,9 @@ use model::refusals::Refusal;
 use store::plays::play;
 
 // The replies to the calls on a new store of N pairs with W numbers in its work table.
-fn replies<const N: usize, const W: usize, const M: usize>(calls: &[Call; M]) -> [Reply; M] {
+fn replies<const N: usize, const W: usize, const M: usize>(calls: &[Call; M]) -> [Reply; M]
+    requires small { (N ≤ 4095) × (W ≤ 8190) }
+{
     let mut replies = [Reply::Done; M];
     play(
         &mut [Pair::blank(); N],

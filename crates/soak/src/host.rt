@@ -5,84 +5,91 @@ use crate::dice::Dice;
 use crate::totals::Totals;
 use kinds::kind::Kind;
 use model::calls::{Call, Reply};
+use std::marker::Model;
 use store::table::Store;
 
+// The number that names no record: a link to it is an empty one, and a call on it is refused.
+pub(crate) const NO_RECORD: usize = 0;
+
 #[derive(Drop)]
-pub(crate) struct Host<'a, K> {
-    pub(crate) store: Store<'a, K>,
+pub(crate) struct Host<'a, K: Kind> {
+    store: Store<'a, K>,
     pub(crate) dice: Dice,
     pub(crate) totals: Totals,
 }
 
-// The byte that record `r` is marked with in a round.
+// The store of every host is lawful. This is no ghost field, since such a field must be a fact with one proof at most, and a
+// lawful store has as many as there are ways along links by which its records can be come to. No contract speaks of what a
+// host holds, so its value is empty.
+impl<'a, K: Kind> Model for Host<'a, K> {
+    ghost Value = { Unit {0} };
+
+    ghost view = { λ _. tt };
+
+    ghost invariant = { λ h. LawfulStore K.Kind h.store };
+}
+
+// The byte of record `r` that has its mark.
+fn marked_byte<K: Kind>(r: usize) -> usize {
+    r % K::numbers().bytes.max(1)
+}
+
+// What record `r` is marked with in a round: a low byte.
 fn mark(r: usize, round: usize) -> u8 {
-    (r.wrapping_mul(31).wrapping_add(round) & 255) as u8
+    let [low, ..] = r.wrapping_mul(31).wrapping_add(round).to_le_bytes();
+    low
 }
 
 impl<'a, K: Kind> Host<'a, K> {
     pub(crate) fn new(store: Store<'a, K>, seed: u64) -> Host<'a, K>
         requires lawful { LawfulStore K.Kind store }
-        ensures lawful { LawfulStore K.Kind result.store }
     {
         Host {
             store,
             dice: Dice::new(seed),
-            totals: Totals::new(),
+            totals: Totals::default(),
         }
     }
 
     // Makes a call and counts it.
-    pub(crate) fn call(&mut self, call: Call) -> Reply
-        requires lawful { LawfulStore K.Kind self.old.store }
-        ensures lawful { LawfulStore K.Kind self.new.store }
-    {
+    pub(crate) fn call(&mut self, call: Call) -> Reply {
         let reply = self.store.perform(call);
         self.totals.note(call, reply);
         reply
     }
 
-    // The number that a call answers; 0 where it answers none.
-    pub(crate) fn number(&mut self, call: Call) -> usize
-        requires lawful { LawfulStore K.Kind self.old.store }
-        ensures lawful { LawfulStore K.Kind self.new.store }
-    {
+    // The number that a call answers, where it answers one.
+    pub(crate) fn number(&mut self, call: Call) -> Option<usize> {
         match self.call(call) {
-            Reply::Number(n) => n,
-            _ => 0,
+            Reply::Number(n) => Some(n),
+            _ => None,
         }
     }
 
     // Makes a record and marks one of its bytes.
-    pub(crate) fn make_marked(&mut self, round: usize) -> usize
-        requires lawful { LawfulStore K.Kind self.old.store }
-        ensures lawful { LawfulStore K.Kind self.new.store }
-    {
-        let r = self.number(Call::Make);
-        let width = K::numbers().bytes.max(1);
-        self.call(Call::Byte(r, r % width, mark(r, round)));
+    pub(crate) fn make_marked(&mut self, round: usize) -> usize {
+        let r = self.number(Call::Make).unwrap_or(NO_RECORD);
+        self.call(Call::Byte(r, marked_byte::<K>(r), mark(r, round)));
         r
     }
 
     // Whether a record has its mark.
-    pub(crate) fn is_marked(&mut self, r: usize, round: usize) -> bool
-        requires lawful { LawfulStore K.Kind self.old.store }
-        ensures lawful { LawfulStore K.Kind self.new.store }
-    {
-        let width = K::numbers().bytes.max(1);
-        match self.call(Call::Look(r, r % width)) {
-            Reply::Number(v) => v == mark(r, round) as usize,
-            _ => false,
-        }
+    pub(crate) fn is_marked(&mut self, r: usize, round: usize) -> bool {
+        let found = self.number(Call::Look(r, marked_byte::<K>(r)));
+        found == Some(usize::from(mark(r, round)))
     }
 
     // Collects, and answers the records in use once makes are held against them.
-    pub(crate) fn collect(&mut self) -> usize
-        requires lawful { LawfulStore K.Kind self.old.store }
-        ensures lawful { LawfulStore K.Kind self.new.store }
-    {
+    pub(crate) fn collect(&mut self) -> Option<usize> {
         self.call(Call::Collect);
-        let in_use = self.number(Call::Tally);
+        let in_use = self.number(Call::Tally)?;
         self.totals.weigh(in_use);
-        in_use
+        Some(in_use)
+    }
+
+    // The totals, with what the store has in use at the end.
+    pub(crate) fn finish(mut self) -> Totals {
+        self.totals.in_use = self.store.tally();
+        self.totals
     }
 }
