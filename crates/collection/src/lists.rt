@@ -1,7 +1,6 @@
 // Mark, scan and gather, each through the candidate list in order, and the collection.
 ghost use Rattle.std.specs.Prelude.{◌≡◌, ◌+◌, ◌*◌, ◌≤◌, length, drop};
 ghost use Rattle.collection.specs.Serving.{Marks, Gathers};
-ghost use Rattle.tracing.specs.Widths.{Narrow};
 ghost use Rattle.model.specs.Collected.{AfterMark, AfterScan, AfterCollection};
 ghost use Rattle.model.specs.Collection.{struck, mark_one as marked_one, gather_one as gathered_one, marked, scanned, gathered, collected};
 ghost use Rattle.model.specs.Lawful.{Lawful};
@@ -38,7 +37,6 @@ fn strike<S: Records>(store: &mut S, r: usize)
 fn mark_one<S: Records>(store: &mut S, r: usize)
     requires lawful { S.Stacked.sound store.old }
     requires serving { Marks S.Records.shape (S.Stacked.progress store.old) r }
-    requires narrow { Narrow S.Records.shape S.Stacked.width }
     requires stack { length (S.Stacked.progress store.old).store.rows ≤ length (S.Stacked.stack store.old) }
     ensures meaning { S.Stacked.progress store.new ≡ marked_one S.Records.shape (S.Stacked.progress store.old) r }
     ensures wide { length (S.Stacked.stack store.new) ≡ length (S.Stacked.stack store.old) }
@@ -58,7 +56,6 @@ fn mark_one<S: Records>(store: &mut S, r: usize)
 pub fn mark<S: Records>(store: &mut S)
     requires lawful { S.Stacked.sound store.old × Lawful S.Records.shape (S.Stacked.progress store.old).store }
     requires few { FewGiven (S.Stacked.progress store.old) }
-    requires narrow { Narrow S.Records.shape S.Stacked.width }
     requires stack { 2 * length (S.Stacked.progress store.old).store.rows ≤ length (S.Stacked.stack store.old) }
     ensures meaning { S.Stacked.progress store.new ≡ marked S.Records.shape (S.Stacked.progress store.old) }
     ensures law { AfterMark S.Records.shape (S.Stacked.progress store.old) (S.Stacked.progress store.new) }
@@ -77,7 +74,6 @@ pub fn mark<S: Records>(store: &mut S)
 pub fn scan<S: Records>(store: &mut S)
     requires lawful { S.Stacked.sound store.old }
     requires marked { (g : Progress) × (Lawful S.Records.shape g.store × AfterMark S.Records.shape g (S.Stacked.progress store.old)) }
-    requires narrow { Narrow S.Records.shape S.Stacked.width }
     requires stack { 2 * length (S.Stacked.progress store.old).store.rows ≤ length (S.Stacked.stack store.old) }
     ensures meaning { S.Stacked.progress store.new ≡ scanned (S.Stacked.progress store.old) }
     ensures law { (g : Progress) → Lawful S.Records.shape g.store → AfterMark S.Records.shape g (S.Stacked.progress store.old) → AfterScan S.Records.shape g (S.Stacked.progress store.new) }
@@ -95,7 +91,6 @@ pub fn scan<S: Records>(store: &mut S)
 fn gather_one<S: Records>(store: &mut S, r: usize)
     requires lawful { S.Stacked.sound store.old }
     requires serving { Gathers S.Records.shape (S.Stacked.progress store.old) r }
-    requires narrow { Narrow S.Records.shape S.Stacked.width }
     requires stack { length (S.Stacked.progress store.old).store.rows ≤ length (S.Stacked.stack store.old) }
     ensures meaning { S.Stacked.progress store.new ≡ gathered_one S.Records.shape (S.Stacked.progress store.old) r }
     ensures wide { length (S.Stacked.stack store.new) ≡ length (S.Stacked.stack store.old) }
@@ -110,7 +105,6 @@ fn gather_one<S: Records>(store: &mut S, r: usize)
 pub fn gather<S: Records>(store: &mut S)
     requires lawful { S.Stacked.sound store.old }
     requires scanned { (g : Progress) × (Lawful S.Records.shape g.store × (FewGiven g × AfterScan S.Records.shape g (S.Stacked.progress store.old))) }
-    requires narrow { Narrow S.Records.shape S.Stacked.width }
     requires stack { 2 * length (S.Stacked.progress store.old).store.rows ≤ length (S.Stacked.stack store.old) }
     ensures meaning { S.Stacked.progress store.new ≡ gathered S.Records.shape (S.Stacked.progress store.old) }
     ensures law { (g : Progress) → Lawful S.Records.shape g.store → FewGiven g → AfterScan S.Records.shape g (S.Stacked.progress store.old) → AfterCollection S.Records.shape g (S.Stacked.progress store.new) }
@@ -129,7 +123,6 @@ pub fn gather<S: Records>(store: &mut S)
 pub fn collect<S: Records>(store: &mut S)
     requires lawful { S.Stacked.sound store.old × Lawful S.Records.shape (S.Stacked.progress store.old).store }
     requires few { FewGiven (S.Stacked.progress store.old) }
-    requires narrow { Narrow S.Records.shape S.Stacked.width }
     requires stack { 2 * length (S.Stacked.progress store.old).store.rows ≤ length (S.Stacked.stack store.old) }
     ensures meaning { S.Stacked.progress store.new ≡ collected S.Records.shape (S.Stacked.progress store.old) }
     ensures law { AfterCollection S.Records.shape (S.Stacked.progress store.old) (S.Stacked.progress store.new) }

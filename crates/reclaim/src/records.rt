@@ -5,6 +5,7 @@ ghost use Rattle.model.specs.Collection.{kept_listed, list_taken};
 ghost use Rattle.model.specs.Release.{moved, turn, given_up};
 ghost use Rattle.model.specs.State.{head, Within, with_row};
 ghost use Rattle.model.specs.Headers.{header, painted};
+ghost use Rattle.reclaim.specs.Widths.{Narrow};
 
 use model::heads::{Colour, Head};
 use walks::stacked::Stacked;
@@ -77,6 +78,9 @@ pub trait Records: Stacked {
         ensures kept { Self.Stacked.stack self.new ≡ Self.Stacked.stack self.old }
         ensures aside { Self.Stacked.table self.new ≡ Self.Stacked.table self.old }
         ensures lawful { Self.Stacked.sound self.new };
+
+    // A walk goes over all links of the shape, and there are at most 16.
+    ghost narrow: { Narrow shape Self.Stacked.width };
 }
 
 // Reads the head of record `r`, alters it, and writes it back.

@@ -1,4 +1,5 @@
 // The store as what release and collection need.
+ghost use Rattle.std.specs.Prelude.{refl};
 ghost use Rattle.store.specs.View.{view};
 
 use crate::table::Store;
@@ -46,4 +47,6 @@ impl<'a, K: Kind> Records for Store<'a, K> {
     fn take_list(&mut self) {
         self.listed = 0;
     }
+
+    ghost narrow = { (refl, K.bounded.few_links) };
 }

@@ -1,7 +1,6 @@
 // Restore: what hangs on a record that is alive turns black, and its links are counted again.
 ghost use Rattle.model.specs.Collection.{restoring};
 ghost use Rattle.model.specs.Colouring.{Restoring, unblack, open_room, open_once};
-ghost use Rattle.tracing.specs.Widths.{Narrow};
 
 use model::heads::{Colour, Head};
 use reclaim::records::{Records, alter_head, repaint};
@@ -13,7 +12,7 @@ pub struct Restore;
 impl<S: Records> Walk<S> for Restore {
     ghost rule = { restoring };
 
-    ghost fits = { λ g Q. Restoring S.Records.shape g Q × Narrow S.Records.shape S.Stacked.width };
+    ghost fits = { λ g Q. Restoring S.Records.shape g Q };
 
     ghost room = { open_room unblack };
 

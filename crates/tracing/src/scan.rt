@@ -1,7 +1,6 @@
 // Scan: a gray record to which a count is left is alive, and restored; one with none turns white.
 ghost use Rattle.model.specs.Collection.{scanning};
 ghost use Rattle.model.specs.Colouring.{Scanning, gray, open_room, open_once};
-ghost use Rattle.tracing.specs.Widths.{Narrow};
 
 use crate::restore::Restore;
 use model::heads::Colour;
@@ -15,7 +14,7 @@ pub struct Scan;
 impl<S: Records> Walk<S> for Scan {
     ghost rule = { scanning };
 
-    ghost fits = { λ g Q. Scanning S.Records.shape g Q × Narrow S.Records.shape S.Stacked.width };
+    ghost fits = { λ g Q. Scanning S.Records.shape g Q };
 
     ghost room = { open_room gray };
 

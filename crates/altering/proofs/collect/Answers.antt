@@ -20,7 +20,6 @@ collect-requires g c =
     record {
       lawful = (c.start.ensures.lawful, subst (λ y. Lawful g.S.Records.shape y.store) (sym e) K.rules);
       few = subst FewGiven (sym e) (omega (arith, K.rules.few, K.rules.heads_fit, count_by-le-length (λ h. h.used) v.heads));
-      narrow = (K.narrow, K.bounded.few_links);
       stack = omega (arith, K.work_room, ap (λ y. length y.store.rows) e, ap length c.start.ensures.kept);
     }
 

@@ -30,7 +30,6 @@ lower-requires g c =
       lawful = c.alter_head.ensures.lawful;
       owing = subst (λ y. Releasing k y (follow r ∷ [])) (sym begun) owing;
       few = subst FewGiven (sym begun) (few_start k (with_head v r (held_less (head v r))) (follow r ∷ []) owing);
-      narrow = c.requires.lawful.keeping.narrow;
       stack =
           omega (
             arith,

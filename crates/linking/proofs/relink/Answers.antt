@@ -69,7 +69,6 @@ lower-requires g c =
       owing = subst (λ y. Releasing k y (follow c.link-old.result ∷ [])) (sym begun)
           (subst (λ u. Releasing k (started (relinked (raised_at v t) r l t)) (follow u ∷ [])) (sym old) owing);
       few = subst FewGiven (sym begun) (few_start k (relinked (raised_at v t) r l t) (follow (get_or (row v r).links l 0) ∷ []) owing);
-      narrow = c.requires.lawful.keeping.narrow;
       stack =
           omega (
             arith,

@@ -37,7 +37,6 @@ gather_one-requires g c =
     record {
       lawful = c.loop-i.invariant.1.1;
       serving = gather_serves k m.0 start y c.candidate-next.result _ L;
-      narrow = c.requires.narrow;
       stack = omega (arith, c.requires.stack, L.gathers.size, c.loop-i.invariant.1.0, ap length e.kept);
     }
 

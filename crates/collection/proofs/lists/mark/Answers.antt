@@ -37,7 +37,6 @@ mark_one-requires g c =
     record {
       lawful = c.loop-i.invariant.1.1.1;
       serving = mark_serves k start y c.candidate-r.result _ M c.requires.few (omega (arith, c.loop-i.invariant.1.0, c.loop-i-test.true, c.listed-n.ensures.room));
-      narrow = c.requires.narrow;
       stack = omega (arith, c.requires.stack, ap length M.rows_same, c.loop-i.invariant.1.1.0, ap length e.kept);
     }
 

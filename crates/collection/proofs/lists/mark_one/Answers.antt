@@ -16,7 +16,7 @@ walk-requires g c =
     let I = c.requires.serving.walks in
     record {
       lawful = (c.requires.lawful, I);
-      keeps = subst (λ p. Keeps p marking (Marking k) (open_room ungray)) (sym c.requires.narrow.0) (marking_keeps k);
+      keeps = subst (λ p. Keeps p marking (Marking k) (open_room ungray)) (sym g.met.S.Records.narrow.0) (marking_keeps k);
       opens = marking_opens k;
       few = I.sized.few;
       stack = omega (arith, c.requires.stack);

@@ -1,10 +1,10 @@
 use Rattle.std.proofs.Common.{◌≡◌, ◌+◌, length, drop, fold, sym, refl, ap, ◌∙◌, subst, arith}
 use Rattle.model.specs.Collected.{AfterScan}
 use Rattle.model.specs.Collection.{scanning, scan_one, scanned}
-use Rattle.model.specs.Colouring.{Scanning, gray, open_room, open_once}
+use Rattle.model.specs.Colouring.{Scanning, gray, open_room}
 use Rattle.model.proofs.Scans.{scanning_keeps, scanning_opens}
 use Rattle.model.proofs.ScanLaws.{scan_begins, scan_turn, scan_law}
-use Rattle.tracing.proofs.Narrowing.{narrow_keeps, narrow_opens}
+use Rattle.model.specs.Walk.{Keeps}
 use Rattle.collection.proofs.Serves.{scan_begun, Scans}
 use Rattle.collection.proofs.Turns.{turn_first, turn_inside, turn_ready, turn_next, turn_all, listed_long}
 use Rattle.collection.proofs.lists.scan.Goals as goal
@@ -33,9 +33,9 @@ walk-requires g c =
     let L = turn_ready scan_one (Scans k) _ _ _ _ y _ c.loop-i.invariant.0 c.loop-i-test.true _ c.candidate-root.ensures.value (m.0, start) begun in
     let I = scan_begins k m.0 start y c.candidate-root.result _ L in
     record {
-      lawful = (c.loop-i.invariant.1.1, (I, c.requires.narrow));
-      keeps = narrow_keeps scanning (Scanning k) k S.width (open_room gray) c.requires.narrow (scanning_keeps k);
-      opens = narrow_opens scanning (Scanning k) k S.width (open_once gray) (scanning_opens k);
+      lawful = (c.loop-i.invariant.1.1, I);
+      keeps = subst (λ p. Keeps p scanning (Scanning k) (open_room gray)) (sym g.met.S.Records.narrow.0) (scanning_keeps k);
+      opens = scanning_opens k;
       few = I.sized.few;
       stack = omega (arith, c.requires.stack, ap length L.since.standing.rows, c.loop-i.invariant.1.0);
     }

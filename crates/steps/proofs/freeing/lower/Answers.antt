@@ -17,7 +17,7 @@ walk-requires g c =
     let fits = subst (λ z. Releasing k z (visit t ∷ []) × FewGiven z) (sym e.meaning) f.fits in
     record {
       lawful = (e.lawful, fits);
-      keeps = subst (λ p. Keeps p (releasing k) (λ z Q. Releasing k z Q × FewGiven z) counted_room) (sym c.requires.narrow) (release_keeps_few k);
+      keeps = subst (λ p. Keeps p (releasing k) (λ z Q. Releasing k z Q × FewGiven z) counted_room) (sym g.met.S.Records.narrow.0) (release_keeps_few k);
       opens = release_opens k;
       few = fits.0.few;
       stack = omega (arith, c.requires.stack, ap (λ z. length z.store.rows) e.meaning, ap length f.rows, ap length e.kept);

@@ -10,5 +10,5 @@ alter_head-requires-clause-allowed g c =
     λ h e. omega (
       arith,
       ap (λ x. x.count) e,
-      restoring_small g.S.Records.shape y c.args.t ready.rest c.requires.named ready.fits.0 ready.fits.1.1,
+      restoring_small g.S.Records.shape y c.args.t ready.rest c.requires.named ready.fits g.met.S.Records.narrow.1,
     )
