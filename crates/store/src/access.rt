@@ -3,7 +3,7 @@ ghost use Rattle.std.specs.Prelude.{◌≡◌, ◌<◌, ◌≤◌};
 ghost use Rattle.model.specs.Release.{moved};
 ghost use Rattle.model.specs.State.{head, row, with_head, with_row};
 ghost use Rattle.model.specs.Headers.{header};
-ghost use Rattle.store.specs.View.{view, progress, Roomy};
+ghost use Rattle.store.specs.View.{view, progress};
 
 use crate::table::Store;
 use kinds::kind::Kind;
@@ -12,7 +12,6 @@ use model::heads::Head;
 impl<'a, K: Kind> Store<'a, K> {
     // The head of record `r`.
     pub(crate) fn head(&self, r: usize) -> Head
-        requires room { Roomy self.now }
         requires within { (1 ≤ r) × (r ≤ self.now.n) }
         ensures value { header result ≡ head (view K.Kind self.now) r }
     {
@@ -20,19 +19,16 @@ impl<'a, K: Kind> Store<'a, K> {
     }
 
     pub(crate) fn set_head(&mut self, r: usize, h: Head)
-        requires room { Roomy self.old }
         requires within { (1 ≤ r) × (r ≤ self.old.n) }
         ensures after { progress K.Kind self.new ≡ moved (progress K.Kind self.old) (with_head (view K.Kind self.old) r (header h)) }
         ensures others { self.new.work.now ≡ self.old.work.now }
         ensures aside { self.new.list.now ≡ self.old.list.now }
-        ensures room { Roomy self.new }
     {
         self.heads[r - 1] = h;
     }
 
     // Record `r`.
     pub(crate) fn record(&self, r: usize) -> K
-        requires room { Roomy self.now }
         requires within { (1 ≤ r) × (r ≤ self.now.n) }
         ensures value { K.Kind.row result ≡ row (view K.Kind self.now) r }
     {
@@ -41,12 +37,10 @@ impl<'a, K: Kind> Store<'a, K> {
     }
 
     pub(crate) fn set_record(&mut self, r: usize, x: K)
-        requires room { Roomy self.old }
         requires within { (1 ≤ r) × (r ≤ self.old.n) }
         ensures after { progress K.Kind self.new ≡ moved (progress K.Kind self.old) (with_row (view K.Kind self.old) r (K.Kind.row x)) }
         ensures others { self.new.work.now ≡ self.old.work.now }
         ensures aside { self.new.list.now ≡ self.old.list.now }
-        ensures room { Roomy self.new }
     {
         self.records[r - 1] = x;
     }

@@ -1,4 +1,6 @@
 // The store's tables.
+ghost use Rattle.std.specs.Prelude.{◌*◌, ◌≤◌, length};
+
 use model::heads::Head;
 
 // A store of N records of one kind, over tables that the host lends.
@@ -17,4 +19,10 @@ pub struct Store<'a, K> {
     pub(crate) front: usize,
     // how many records the call under way has given up
     pub(crate) given: usize,
+    // the tables have room for N records
+    ghost records_room: { n ≤ length records.now },
+    ghost heads_room: { n ≤ length heads.now },
+    ghost list_room: { n ≤ length list.now },
+    ghost work_room: { 2 * n ≤ length work.now },
+    ghost listed_room: { listed ≤ n },
 }

@@ -1,4 +1,4 @@
-use Rattle.std.proofs.Common.{◌-◌, List, refl, ap, arith, length-set}
+use Rattle.std.proofs.Common.{◌-◌, List, refl, ap}
 use Rattle.model.specs.Headers.{Header, header}
 use Rattle.model.specs.Walk.{Progress}
 use Rattle.store.specs.View.{view}
@@ -9,18 +9,10 @@ pub returns : goal.returns
 returns g c =
     let s = c.args.self.now in
     let v = view g.K.Kind s in
-    let r = c.requires.room in
     let with_heads : List Header → Progress =
     λ hs. record { store = record { heads = hs; rows = v.rows; candidates = v.candidates; front = v.front }; given = s.given } in
     record {
       after = ap with_heads (set_front header s.n s.heads.now (c.args.r - 1) c.args.h);
       others = refl;
       aside = refl;
-      room = record {
-        records_room = r.records_room;
-        heads_room = omega (arith, r.heads_room, length-set s.heads.now (c.args.r - 1) c.args.h);
-        list_room = r.list_room;
-        work_room = r.work_room;
-        listed_room = r.listed_room;
-      };
     }

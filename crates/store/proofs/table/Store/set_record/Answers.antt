@@ -1,4 +1,4 @@
-use Rattle.std.proofs.Common.{◌-◌, List, refl, ap, arith, length-set}
+use Rattle.std.proofs.Common.{◌-◌, List, refl, ap}
 use Rattle.kinds.specs.Rows.{Row}
 use Rattle.model.specs.Walk.{Progress}
 use Rattle.store.specs.View.{view}
@@ -9,18 +9,10 @@ pub returns : goal.returns
 returns g c =
     let s = c.args.self.now in
     let v = view g.K.Kind s in
-    let room = c.requires.room in
     let with_rows : List Row → Progress =
     λ ws. record { store = record { heads = v.heads; rows = ws; candidates = v.candidates; front = v.front }; given = s.given } in
     record {
       after = ap with_rows (set_front g.K.Kind.row s.n s.records.now (c.args.r - 1) c.args.x);
       others = refl;
       aside = refl;
-      room = record {
-        records_room = omega (arith, room.records_room, length-set s.records.now (c.args.r - 1) c.args.x);
-        heads_room = room.heads_room;
-        list_room = room.list_room;
-        work_room = room.work_room;
-        listed_room = room.listed_room;
-      };
     }
