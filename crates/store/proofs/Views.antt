@@ -3,7 +3,12 @@ use Rattle.std.proofs.Common.{◌≡◌, ℕ, zero, suc, ◌+◌, ◌<◌, ◌�
 use Rattle.std.proofs.lemmas.List.{get_or-map, get_or-take, map-set, length-take-le, length-map}
 use Rattle.std.proofs.lemmas.List.Sums.{sum_by-cons}
 use Rattle.kinds.specs.declared.kind.Kind.{Ghosts}
-use Rattle.store.specs.View.{view, Roomy, Same}
+use Rattle.kinds.specs.Rows.{Bounded}
+use Rattle.steps.specs.Keeping.{LawfulStore as LawfulOf}
+use Rattle.store.proofs.Evidence.{lawful_shown}
+use Rattle.store.specs.Meaning.{meaning, stacked, records, Roomy}
+use Rattle.store.specs.View.{view, LawfulStore, Same}
+use Rattle.store.specs.declared.contents.Contents.{Contents}
 use Rattle.store.specs.declared.table.Store.{Store}
 
 pub take_of_set : {X : Type 0} (n : ℕ) (xs : List X) (i : ℕ) (v : X) → take n (set xs i v) ≡ set (take n xs) i v
@@ -23,8 +28,8 @@ module _ {X Y : Type 0} (f : X → Y) (n : ℕ) (xs : List X) where
   pub set_front : (i : ℕ) (v : X) → map f (take n (set xs i v)) ≡ set (map f (take n xs)) i (f v)
   set_front i v = ap (map f) (take_of_set n xs i v) ∙ map-set f (take n xs) i v
 
--- every store has room for its records: its fields say so
-pub roomy : {K : Type 0} (s : Store K) → Roomy s
+-- there is room for the records: the fields say so
+pub roomy : {K : Type 0} (s : Contents K) → Roomy s
 roomy s = record {
   records_room = s.records_room;
   heads_room = s.heads_room;
@@ -34,12 +39,24 @@ roomy s = record {
 }
 
 -- N, by the rows
-pub size_is : {K : Type 0} (g : Ghosts K) (s : Store K) → length (view g s).rows ≡ s.n
+pub size_is : {K : Type 0} (g : Ghosts K) (s : Contents K) → length (meaning g s).rows ≡ s.n
 size_is g s = length_front g.row s.n s.records.now s.records_room
 
--- N stays where the rows are as many
-pub same_size : {K : Type 0} (g : Ghosts K) (s z : Store K) → length (view g z).rows ≡ length (view g s).rows → z.n ≡ s.n
-same_size g s z e = sym (size_is g z) ∙ e ∙ size_is g s
+-- every store is lawful: its type says so
+pub lawful_store : {K : Type 0} (g : Ghosts K) (s : Store K g) → LawfulStore g s
+lawful_store g s = record { room = roomy s.contents; rules = lawful_shown g.shape (view g s) s.lawful }
+
+-- what the calls over any store ask for
+pub lawful_for : {K : Type 0} (g : Ghosts K) (s : Store K g) → Bounded g.shape → LawfulOf (stacked g) (records g) s.contents
+lawful_for g s b = record {
+  sound = roomy s.contents;
+  keeping = record {
+    rules = lawful_shown g.shape (view g s) s.lawful;
+    bounded = b;
+    narrow = refl;
+    work_room = omega (arith, s.contents.work_room, size_is g s.contents);
+  };
+}
 
 pub count_by_map :
     {X Y : Type 0} (p : Y → Bool) (f : X → Y) (xs : List X) → count_by p (map f xs) ≡ count_by (λ x. p (f x)) xs
@@ -49,7 +66,7 @@ count_by_map p f (x ∷ xs) =
     ∙ ap (λ n. cond (p (f x)) 1 0 + n) (count_by_map p f xs)
     ∙ sym (sum_by-cons (λ y. cond (p (f y)) 1 0) x xs)
 
-pub same_store : {K : Type 0} (s : Store K) → Same s s
+pub same_store : {K : Type 0} {g : Ghosts K} (s : Store K g) → Same s s
 same_store s = record {
   records_same = refl;
   heads_same = refl;

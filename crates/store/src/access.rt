@@ -3,24 +3,24 @@ ghost use Rattle.std.specs.Prelude.{◌≡◌, ◌<◌, ◌≤◌};
 ghost use Rattle.model.specs.Release.{moved};
 ghost use Rattle.model.specs.State.{head, row, with_head, with_row};
 ghost use Rattle.model.specs.Headers.{header};
-ghost use Rattle.store.specs.View.{view, progress};
+ghost use Rattle.store.specs.Meaning.{meaning, progress};
 
-use crate::table::Store;
+use crate::contents::Contents;
 use kinds::kind::Kind;
 use model::heads::Head;
 
-impl<'a, K: Kind> Store<'a, K> {
+impl<'a, K: Kind> Contents<'a, K> {
     // The head of record `r`.
     pub(crate) fn head(&self, r: usize) -> Head
         requires within { (1 ≤ r) × (r ≤ self.now.n) }
-        ensures value { header result ≡ head (view K.Kind self.now) r }
+        ensures value { header result ≡ head (meaning K.Kind self.now) r }
     {
         self.heads[r - 1]
     }
 
     pub(crate) fn set_head(&mut self, r: usize, h: Head)
         requires within { (1 ≤ r) × (r ≤ self.old.n) }
-        ensures after { progress K.Kind self.new ≡ moved (progress K.Kind self.old) (with_head (view K.Kind self.old) r (header h)) }
+        ensures after { progress K.Kind self.new ≡ moved (progress K.Kind self.old) (with_head (meaning K.Kind self.old) r (header h)) }
         ensures others { self.new.work.now ≡ self.old.work.now }
         ensures aside { self.new.list.now ≡ self.old.list.now }
     {
@@ -30,7 +30,7 @@ impl<'a, K: Kind> Store<'a, K> {
     // Record `r`.
     pub(crate) fn record(&self, r: usize) -> K
         requires within { (1 ≤ r) × (r ≤ self.now.n) }
-        ensures value { K.Kind.row result ≡ row (view K.Kind self.now) r }
+        ensures value { K.Kind.row result ≡ row (meaning K.Kind self.now) r }
     {
         let records = &*self.records;
         records[r - 1]
@@ -38,7 +38,7 @@ impl<'a, K: Kind> Store<'a, K> {
 
     pub(crate) fn set_record(&mut self, r: usize, x: K)
         requires within { (1 ≤ r) × (r ≤ self.old.n) }
-        ensures after { progress K.Kind self.new ≡ moved (progress K.Kind self.old) (with_row (view K.Kind self.old) r (K.Kind.row x)) }
+        ensures after { progress K.Kind self.new ≡ moved (progress K.Kind self.old) (with_row (meaning K.Kind self.old) r (K.Kind.row x)) }
         ensures others { self.new.work.now ≡ self.old.work.now }
         ensures aside { self.new.list.now ≡ self.old.list.now }
     {

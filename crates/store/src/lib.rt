@@ -3,6 +3,7 @@
 
 mod access;
 mod bytes;
+pub mod contents;
 mod counts;
 pub mod fields;
 mod fills;

@@ -2,8 +2,9 @@
 ghost use Rattle.std.specs.Prelude.{◌≡◌, length};
 ghost use Rattle.model.specs.Calls.{new as new_state};
 ghost use Rattle.store.specs.Tables.{table_test, table_size};
-ghost use Rattle.store.specs.View.{view, LawfulStore};
+ghost use Rattle.store.specs.View.{view};
 
+use crate::contents::Contents;
 use crate::fills::{blank_records, chain_heads};
 use crate::table::Store;
 use kinds::kind::Kind;
@@ -33,34 +34,37 @@ impl<'a, K: Kind> Store<'a, K> {
         work: &'a mut [u32],
     ) -> Store<'a, K>
         ensures store { view K.Kind result ≡ new_state K.Kind.shape (table_size (length records.old) (length heads.old) (length list.old) (length work.old)) }
-        ensures lawful { LawfulStore K.Kind result }
-        ensures untouched { table_size (length records.old) (length heads.old) (length list.old) (length work.old) ≡ 0 → (result.records.now ≡ records.old) × (result.heads.now ≡ heads.old) }
-        ensures others { (result.list.now ≡ list.old) × (result.work.now ≡ work.old) }
+        ensures untouched { table_size (length records.old) (length heads.old) (length list.old) (length work.old) ≡ 0 → (result.contents.records.now ≡ records.old) × (result.contents.heads.now ≡ heads.old) }
+        ensures others { (result.contents.list.now ≡ list.old) × (result.contents.work.now ≡ work.old) }
     {
         if test_tables(records, heads, list, work) != 0 {
             return Store {
-                records,
-                heads,
-                list,
-                work,
-                n: 0,
-                listed: 0,
-                front: 0,
-                given: 0,
+                contents: Contents {
+                    records,
+                    heads,
+                    list,
+                    work,
+                    n: 0,
+                    listed: 0,
+                    front: 0,
+                    given: 0,
+                },
             };
         }
         blank_records(records);
         chain_heads(heads);
         let n = records.len();
         Store {
-            records,
-            heads,
-            list,
-            work,
-            n,
-            listed: 0,
-            front: 1,
-            given: 0,
+            contents: Contents {
+                records,
+                heads,
+                list,
+                work,
+                n,
+                listed: 0,
+                front: 1,
+                given: 0,
+            },
         }
     }
 }

@@ -2,7 +2,7 @@
 ghost use Rattle.std.specs.Prelude.{◌≡◌, length, drop};
 ghost use Rattle.model.specs.History.{After, Promises, events};
 ghost use Rattle.store.specs.Tables.{table_size};
-ghost use Rattle.store.specs.View.{view, LawfulStore};
+ghost use Rattle.store.specs.View.{view};
 
 use crate::table::Store;
 use kinds::kind::Kind;
@@ -18,7 +18,6 @@ pub fn play<'a, K: Kind>(
     calls: &[Call],
     replies: &mut [Reply],
 ) -> Store<'a, K>
-    ensures lawful { LawfulStore K.Kind result }
     ensures answers { After K.Kind.shape (table_size (length records.old) (length heads.old) (length list.old) (length work.old)) (events calls.now replies.new) (view K.Kind result) }
     ensures history { Promises K.Kind.shape (table_size (length records.old) (length heads.old) (length list.old) (length work.old)) (events calls.now replies.new) (view K.Kind result) }
     ensures untouched { drop (length calls.now) replies.new ≡ drop (length calls.now) replies.old }

@@ -1,13 +1,13 @@
 // The store as what release and collection need.
-ghost use Rattle.store.specs.View.{view};
+ghost use Rattle.store.specs.Meaning.{meaning};
 
-use crate::table::Store;
+use crate::contents::Contents;
 use kinds::kind::Kind;
 use model::heads::Head;
 use reclaim::records::Records;
 use walks::stacked::Stacked;
 
-impl<'a, K: Kind> Records for Store<'a, K> {
+impl<'a, K: Kind> Records for Contents<'a, K> {
     ghost shape = { K.Kind.shape };
 
     fn read_head(&self, r: usize) -> Head {

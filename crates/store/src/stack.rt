@@ -1,11 +1,11 @@
 // The store as what a walk needs: links, and the work table as its stack.
-ghost use Rattle.store.specs.View.{progress as progress_of, Roomy};
+ghost use Rattle.store.specs.Meaning.{progress as progress_of, Roomy};
 
-use crate::table::Store;
+use crate::contents::Contents;
 use kinds::kind::Kind;
 use walks::stacked::Stacked;
 
-impl<'a, K: Kind> Stacked for Store<'a, K> {
+impl<'a, K: Kind> Stacked for Contents<'a, K> {
     ghost progress = { λ s. progress_of K.Kind s };
 
     ghost stack = { λ s. s.work.now };

@@ -7,13 +7,11 @@ use Rattle.model.specs.declared.calls.Call.TheVariants.{Make}
 use Rattle.model.proofs.Histories.{after_none, every_history, events_push, events_all}
 use Rattle.store.specs.Tables.{table_size}
 use Rattle.store.specs.View.{view}
+use Rattle.store.proofs.Views.{lawful_store}
 use Rattle.store.proofs.plays.play.Goals as goal
 
-pub perform-requires : goal.perform-requires
-perform-requires g c = record { lawful = c.loop-i.invariant.0 }
-
 pub loop-i-init : goal.loop-i-init
-loop-i-init g c = (c.new-store.ensures.lawful, λ n a. a, refl)
+loop-i-init g c = (λ n a. a, refl)
 
 pub loop-i-preserved : goal.loop-i-preserved
 loop-i-preserved g c =
@@ -27,10 +25,9 @@ loop-i-preserved g c =
     ∙ ap (events (take i cs ++ (get_or cs i Make ∷ []))) (take_more_set rs i c.perform.result (omega arith))
     ∙ events_push (take i cs) (take i rs) (get_or cs i Make) c.perform.result
     (length-take-le i cs (omega arith) ∙ sym (length-take-le i rs (omega arith))) in (
-      c.perform.ensures.lawful,
-      λ n a. subst (λ es. After k n es z) (sym more) (c.perform.ensures.history n _ (c.loop-i.invariant.1 n a)).0,
+      λ n a. subst (λ es. After k n es z) (sym more) (c.perform.ensures.history n _ (c.loop-i.invariant.0 n a)).0,
       drop-set-lt (i + 1) rs i c.perform.result (omega arith)
-          ∙ sym (drop-drop 1 i rs) ∙ ap (drop 1) c.loop-i.invariant.2 ∙ drop-drop 1 i c.args.replies.now,
+          ∙ sym (drop-drop 1 i rs) ∙ ap (drop 1) c.loop-i.invariant.1 ∙ drop-drop 1 i c.args.replies.now,
     )
 
 pub returns : goal.returns
@@ -44,17 +41,16 @@ returns g c =
     let size =
     table_size (length c.args.records.now) (length c.args.heads.now) (length c.args.list.now) (length c.args.work.now) in
     let few : size ≤ 4095 =
-    omega (arith, made.lawful.rules.few, ap (λ s. length s.rows) made.store, length-replicate size (blank k)) in
+    omega (arith, (lawful_store g.K.Kind c.new-store.result).rules.few, ap (λ s. length s.rows) made.store, length-replicate size (blank k)) in
     let none = subst (After k size []) (sym made.store) (after_none k size few) in
     let all : i ≡ min (length cs) (length rs) = omega (arith, c.min-i-end.ensures) in
-    let answers = subst (λ es. After k size es z) (events_all i cs rs all) (c.loop-i.invariant.1 size none) in
+    let answers = subst (λ es. After k size es z) (events_all i cs rs all) (c.loop-i.invariant.0 size none) in
     record {
-      lawful = c.loop-i.invariant.0;
       answers = answers;
       history = (every_history k size (events cs rs) z answers).1;
       untouched = ⊎_elim
           (λ short. drop_all (length cs) rs (omega arith) ∙ sym (drop_all (length cs) c.args.replies.now (omega arith)))
           (λ long. let e : i ≡ length cs = omega arith in
-          subst (λ n. drop n rs ≡ drop n c.args.replies.now) e c.loop-i.invariant.2)
+          subst (λ n. drop n rs ≡ drop n c.args.replies.now) e c.loop-i.invariant.1)
           (cases_lt (length rs) (length cs));
     }

@@ -1,7 +1,7 @@
 use Rattle.std.proofs.Common.{◌-◌, sym, ap, ◌∙◌, arith}
 use Rattle.model.specs.State.{no_row}
 use Rattle.store.proofs.Views.{get_d_front}
-use Rattle.store.proofs.table.Store.record.Goals as goal
+use Rattle.store.proofs.contents.Contents.record.Goals as goal
 
 pub returns : goal.returns
 returns g c =

@@ -1,7 +1,7 @@
 use Rattle.std.proofs.Common.{◌-◌, sym, arith}
 use Rattle.model.specs.Headers.{header, free_header}
 use Rattle.store.proofs.Views.{get_d_front}
-use Rattle.store.proofs.table.Store.head.Goals as goal
+use Rattle.store.proofs.contents.Contents.head.Goals as goal
 
 pub returns : goal.returns
 returns g c =
