@@ -23,6 +23,7 @@ pub fn play<'a, K: Kind>(
     ensures untouched { drop (length calls.now) replies.new ≡ drop (length calls.now) replies.old }
 {
     let mut store = Store::new(records, heads, list, work);
+    // by number: behind `calls.iter().zip(replies.iter_mut())` a proof knows how many replies there are, and none of them
     for i in 0..calls.len().min(replies.len()) {
         replies[i] = store.perform(calls[i]);
     }
