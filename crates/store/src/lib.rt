@@ -16,3 +16,4 @@ pub mod plays;
 pub mod records;
 pub mod stack;
 pub mod table;
+pub mod tables;

@@ -35,7 +35,7 @@ impl<'a, K: Kind> Records for Contents<'a, K> {
     }
 
     fn candidate(&self, i: usize) -> usize {
-        self.list[i] as usize
+        usize::from(self.list[i])
     }
 
     fn push(&mut self, r: usize) {

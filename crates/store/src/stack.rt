@@ -21,10 +21,11 @@ impl<'a, K: Kind> Stacked for Contents<'a, K> {
     }
 
     fn link(&self, r: usize, i: usize) -> usize {
-        self.record(r).link(i) as usize
+        usize::from(self.record(r).link(i))
     }
 
     fn entry(&self, at: usize) -> usize {
+        // `as`, here and where numbers are stored: there is no `From<u32>` for a `usize`, and a number that is stored is known to fit
         self.work[at] as usize
     }
 

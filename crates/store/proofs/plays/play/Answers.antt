@@ -5,7 +5,7 @@ use Rattle.kinds.specs.Rows.{blank}
 use Rattle.model.specs.History.{After, events, then}
 use Rattle.model.specs.declared.calls.Call.TheVariants.{Make}
 use Rattle.model.proofs.Histories.{after_none, every_history, events_push, events_all}
-use Rattle.store.specs.Tables.{table_size}
+use Rattle.store.specs.Sizes.{size_over}
 use Rattle.store.specs.View.{view}
 use Rattle.store.proofs.Views.{lawful_store}
 use Rattle.store.proofs.plays.play.Goals as goal
@@ -38,8 +38,7 @@ returns g c =
     let rs = c.loop-i.replies in
     let z = view g.K.Kind c.loop-i.store in
     let made = c.new-store.ensures in
-    let size =
-    table_size (length c.args.records.now) (length c.args.heads.now) (length c.args.list.now) (length c.args.work.now) in
+    let size = size_over c.args.tables in
     let few : size ≤ 4095 =
     omega (arith, (lawful_store g.K.Kind c.new-store.result).rules.few, ap (λ s. length s.rows) made.store, length-replicate size (blank k)) in
     let none = subst (After k size []) (sym made.store) (after_none k size few) in
