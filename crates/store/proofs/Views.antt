@@ -40,7 +40,7 @@ roomy s = record {
 
 -- N, by the rows
 pub size_is : {K : Type 0} (g : Ghosts K) (s : Contents K) → length (meaning g s).rows ≡ s.n
-size_is g s = length_front g.row s.n s.records.now s.records_room
+size_is g s = length_front g.row s.n s.tables.records.now s.records_room
 
 -- every store is lawful: its type says so
 pub lawful_store : {K : Type 0} (g : Ghosts K) (s : Store K g) → LawfulStore g s

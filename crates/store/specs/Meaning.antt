@@ -11,9 +11,9 @@ use Rattle.store.specs.declared.contents.Contents.{Contents}
 -- the first N entries of the record table and the heads, and the first entries of the list, as many as are listed
 abbrev pub meaning : {K : Type 0} → Ghosts K → Contents K → State
 meaning g s = record {
-  heads = map header (take s.n s.heads.now);
-  rows = map g.row (take s.n s.records.now);
-  candidates = take s.listed s.list.now;
+  heads = map header (take s.n s.tables.heads.now);
+  rows = map g.row (take s.n s.tables.records.now);
+  candidates = take s.listed s.tables.list.now;
   front = s.front;
 }
 
@@ -23,18 +23,18 @@ progress g s = record { store = meaning g s; given = s.given }
 
 -- the tables have room for N records
 pub record Roomy {K : Type 0} (s : Contents K) : Type 0 where
-  pub records_room : s.n ≤ length s.records.now
-  pub heads_room : s.n ≤ length s.heads.now
-  pub list_room : s.n ≤ length s.list.now
-  pub work_room : 2 * s.n ≤ length s.work.now
+  pub records_room : s.n ≤ length s.tables.records.now
+  pub heads_room : s.n ≤ length s.tables.heads.now
+  pub list_room : s.n ≤ length s.tables.list.now
+  pub work_room : 2 * s.n ≤ length s.tables.work.now
   pub listed_room : s.listed ≤ s.n
 
 -- the store as what a walk, a release and a collection need
 abbrev pub stacked : {K : Type 0} → Ghosts K → walks.Ghosts (Contents K)
 stacked g = record {
   progress = λ s. progress g s;
-  stack = λ s. s.work.now;
-  table = λ s. s.list.now;
+  stack = λ s. s.tables.work.now;
+  table = λ s. s.tables.list.now;
   sound = λ s. Roomy s;
   width = g.shape.links;
 }

@@ -17,10 +17,10 @@ pub record LawfulStore {K : Type 0} (g : Ghosts K) (s : Store K g) : Type 0 wher
 
 -- nothing is altered, in any table
 pub record Same {K : Type 0} {g : Ghosts K} (a b : Store K g) : Type 0 where
-  pub records_same : b.contents.records.now ≡ a.contents.records.now
-  pub heads_same : b.contents.heads.now ≡ a.contents.heads.now
-  pub list_same : b.contents.list.now ≡ a.contents.list.now
-  pub work_same : b.contents.work.now ≡ a.contents.work.now
+  pub records_same : b.contents.tables.records.now ≡ a.contents.tables.records.now
+  pub heads_same : b.contents.tables.heads.now ≡ a.contents.tables.heads.now
+  pub list_same : b.contents.tables.list.now ≡ a.contents.tables.list.now
+  pub work_same : b.contents.tables.work.now ≡ a.contents.tables.work.now
   pub n_same : b.contents.n ≡ a.contents.n
   pub listed_same : b.contents.listed ≡ a.contents.listed
   pub front_same : b.contents.front ≡ a.contents.front

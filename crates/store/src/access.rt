@@ -15,16 +15,16 @@ impl<'a, K: Kind> Contents<'a, K> {
         requires within { (1 ≤ r) × (r ≤ self.now.n) }
         ensures value { header result ≡ head (meaning K.Kind self.now) r }
     {
-        self.heads[r - 1]
+        self.tables.heads[r - 1]
     }
 
     pub(crate) fn set_head(&mut self, r: usize, h: Head)
         requires within { (1 ≤ r) × (r ≤ self.old.n) }
         ensures after { progress K.Kind self.new ≡ moved (progress K.Kind self.old) (with_head (meaning K.Kind self.old) r (header h)) }
-        ensures others { self.new.work.now ≡ self.old.work.now }
-        ensures aside { self.new.list.now ≡ self.old.list.now }
+        ensures others { self.new.tables.work.now ≡ self.old.tables.work.now }
+        ensures aside { self.new.tables.list.now ≡ self.old.tables.list.now }
     {
-        self.heads[r - 1] = h;
+        self.tables.heads[r - 1] = h;
     }
 
     // Record `r`.
@@ -32,16 +32,16 @@ impl<'a, K: Kind> Contents<'a, K> {
         requires within { (1 ≤ r) × (r ≤ self.now.n) }
         ensures value { K.Kind.row result ≡ row (meaning K.Kind self.now) r }
     {
-        let records = &*self.records;
+        let records = &*self.tables.records;
         records[r - 1]
     }
 
     pub(crate) fn set_record(&mut self, r: usize, x: K)
         requires within { (1 ≤ r) × (r ≤ self.old.n) }
         ensures after { progress K.Kind self.new ≡ moved (progress K.Kind self.old) (with_row (meaning K.Kind self.old) r (K.Kind.row x)) }
-        ensures others { self.new.work.now ≡ self.old.work.now }
-        ensures aside { self.new.list.now ≡ self.old.list.now }
+        ensures others { self.new.tables.work.now ≡ self.old.tables.work.now }
+        ensures aside { self.new.tables.list.now ≡ self.old.tables.list.now }
     {
-        self.records[r - 1] = x;
+        self.tables.records[r - 1] = x;
     }
 }

@@ -42,7 +42,7 @@ impl<'a, K: Kind> Fields for Contents<'a, K> {
     }
 
     fn used(&self) -> usize {
-        let heads = &*self.heads;
+        let heads = &*self.tables.heads;
         count_used(heads, self.n)
     }
 

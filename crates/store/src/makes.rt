@@ -46,10 +46,11 @@ impl<'a, K: Kind> Store<'a, K> {
     // A store of free records over tables that fit; over others nothing is written, and the store has no record.
     pub fn new(tables: Tables<'a, K>) -> Store<'a, K>
         ensures store { view K.Kind result ≡ new_state K.Kind.shape (size_over tables.entry) }
-        ensures untouched { size_over tables.entry ≡ 0 → (result.contents.records.now ≡ tables.entry.records.now) × (result.contents.heads.now ≡ tables.entry.heads.now) }
-        ensures others { (result.contents.list.now ≡ tables.entry.list.now) × (result.contents.work.now ≡ tables.entry.work.now) }
+        ensures untouched { size_over tables.entry ≡ 0 → (result.contents.tables.records.now ≡ tables.entry.records.now) × (result.contents.tables.heads.now ≡ tables.entry.heads.now) }
+        ensures others { (result.contents.tables.list.now ≡ tables.entry.list.now) × (result.contents.tables.work.now ≡ tables.entry.work.now) }
     {
         let n = tables.size();
+        // taken apart, since of a slice that is lent through a field a proof knows no element afterwards
         let Tables {
             records,
             heads,
@@ -60,10 +61,12 @@ impl<'a, K: Kind> Store<'a, K> {
         chain_heads(&mut heads[..n]);
         Store {
             contents: Contents {
-                records,
-                heads,
-                list,
-                work,
+                tables: Tables {
+                    records,
+                    heads,
+                    list,
+                    work,
+                },
                 n,
                 listed: 0,
                 front: n.min(1),

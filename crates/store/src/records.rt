@@ -35,11 +35,11 @@ impl<'a, K: Kind> Records for Contents<'a, K> {
     }
 
     fn candidate(&self, i: usize) -> usize {
-        usize::from(self.list[i])
+        usize::from(self.tables.list[i])
     }
 
     fn push(&mut self, r: usize) {
-        self.list[self.listed] = r as u16;
+        self.tables.list[self.listed] = r as u16;
         self.listed += 1;
     }
 

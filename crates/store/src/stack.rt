@@ -8,9 +8,9 @@ use walks::stacked::Stacked;
 impl<'a, K: Kind> Stacked for Contents<'a, K> {
     ghost progress = { λ s. progress_of K.Kind s };
 
-    ghost stack = { λ s. s.work.now };
+    ghost stack = { λ s. s.tables.work.now };
 
-    ghost table = { λ s. s.list.now };
+    ghost table = { λ s. s.tables.list.now };
 
     ghost sound = { λ s. Roomy s };
 
@@ -26,10 +26,10 @@ impl<'a, K: Kind> Stacked for Contents<'a, K> {
 
     fn entry(&self, at: usize) -> usize {
         // `as`, here and where numbers are stored: there is no `From<u32>` for a `usize`, and a number that is stored is known to fit
-        self.work[at] as usize
+        self.tables.work[at] as usize
     }
 
     fn put(&mut self, at: usize, n: usize) {
-        self.work[at] = n as u32;
+        self.tables.work[at] = n as u32;
     }
 }

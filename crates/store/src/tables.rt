@@ -13,7 +13,9 @@ use model::refusals::Refusal;
 pub struct Tables<'a, K> {
     pub records: &'a mut [K],
     pub heads: &'a mut [Head],
+    // the candidate list
     pub list: &'a mut [u16],
+    // the stack of a walk
     pub work: &'a mut [u32],
 }
 

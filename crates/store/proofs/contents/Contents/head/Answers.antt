@@ -8,5 +8,5 @@ returns g c =
     let s = c.args.self.now in
     record {
       value =
-          sym (get_d_front header s.n s.heads.now (c.args.r - 1) c.index-self-r.result (free_header 0) s.heads_room (omega arith));
+          sym (get_d_front header s.n s.tables.heads.now (c.args.r - 1) c.index-self-r.result (free_header 0) s.heads_room (omega arith));
     }

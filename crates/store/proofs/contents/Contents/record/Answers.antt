@@ -10,5 +10,5 @@ returns g c =
     record {
       value =
           ap f c.index-records-r.is
-          ∙ sym (get_d_front f s.n s.records.now (c.args.r - 1) c.index-records-r.result no_row s.records_room (omega arith));
+          ∙ sym (get_d_front f s.n s.tables.records.now (c.args.r - 1) c.index-records-r.result no_row s.records_room (omega arith));
     }

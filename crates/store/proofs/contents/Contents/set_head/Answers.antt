@@ -12,7 +12,7 @@ returns g c =
     let with_heads : List Header → Progress =
     λ hs. record { store = record { heads = hs; rows = v.rows; candidates = v.candidates; front = v.front }; given = s.given } in
     record {
-      after = ap with_heads (set_front header s.n s.heads.now (c.args.r - 1) c.args.h);
+      after = ap with_heads (set_front header s.n s.tables.heads.now (c.args.r - 1) c.args.h);
       others = refl;
       aside = refl;
     }

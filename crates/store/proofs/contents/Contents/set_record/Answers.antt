@@ -12,7 +12,7 @@ returns g c =
     let with_rows : List Row → Progress =
     λ ws. record { store = record { heads = v.heads; rows = ws; candidates = v.candidates; front = v.front }; given = s.given } in
     record {
-      after = ap with_rows (set_front g.K.Kind.row s.n s.records.now (c.args.r - 1) c.args.x);
+      after = ap with_rows (set_front g.K.Kind.row s.n s.tables.records.now (c.args.r - 1) c.args.x);
       others = refl;
       aside = refl;
     }
