@@ -18,6 +18,7 @@ impl<'a, K: Kind> Contents<'a, K> {
         self.tables.heads[r - 1]
     }
 
+    #[tactic(auto, using(crate::proofs::Views::set_front))]
     pub(crate) fn set_head(&mut self, r: usize, h: Head)
         requires within { (1 ≤ r) × (r ≤ self.old.n) }
         ensures after { progress K.Kind self.new ≡ moved (progress K.Kind self.old) (with_head (meaning K.Kind self.old) r (header h)) }
@@ -36,6 +37,7 @@ impl<'a, K: Kind> Contents<'a, K> {
         records[r - 1]
     }
 
+    #[tactic(auto, using(crate::proofs::Views::set_front))]
     pub(crate) fn set_record(&mut self, r: usize, x: K)
         requires within { (1 ≤ r) × (r ≤ self.old.n) }
         ensures after { progress K.Kind self.new ≡ moved (progress K.Kind self.old) (with_row (meaning K.Kind self.old) r (K.Kind.row x)) }

@@ -9,9 +9,11 @@ returns g c =
     let row = g.K.Kind.row in
     let b = blank g.K.Kind.shape in
     let filled = chained_keeps _ (λ xs _. map row xs ≡ replicate (length xs) b)
-    (λ xs q x v j r.
+    (λ xs q x v j called.
     let e : row x ≡ b = search rules in
-    let n : length xs + 1 ≡ length (xs ++ x ∷ []) = omega (arith, length-append xs (x ∷ [])) in
-    map_push row xs x ∙ ap (λ ws. ws ++ row x ∷ []) j ∙ ap (λ w. replicate (length xs) b ++ w ∷ []) e ∙ replicate_more (length xs) b ∙ ap (λ n. replicate n b) n)
+    let pushed = map_push row xs x in
+    let more = replicate_more (length xs) b in
+    let n : length (xs ++ x ∷ []) ≡ length xs + 1 = omega (arith, length-append xs (x ∷ [])) in
+    cc)
     _ _ _ refl c.fill_with.ensures.ran.1 in
     record { after = filled ∙ ap (λ n. replicate n b) c.fill_with.ensures.len }
