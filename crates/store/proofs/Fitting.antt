@@ -1,56 +1,54 @@
--- Tables that pass their test have the lengths that a store wants.
-use Rattle.std.proofs.Common.{◌≡◌, ℕ, ◌*◌, ◌≤◌, min, Bool, true, false, cond, ◌&&◌, ◌||◌, eqb, ltb, leb, List, [], map, replicate, sym, refl, ap, ◌∙◌, arith}
+-- How many records a store over lent tables has, and what its tables mean once they are filled.
+use Rattle.std.proofs.Common.{◌≡◌, ℕ, ◌≤◌, zero, suc, min, List, [], ◌∷◌, ◌++◌, drop, map, length, take, replicate, sym, refl, ap, ◌∙◌, arith}
 use Rattle.std.specs.List.{range_with_len}
-use Rattle.std.proofs.lemmas.Bool.{or_parts, and_parts, eqb-true, eqb-false, leb-true, ltb-false, cond-true, cond-false, eq-eqb, ne_eqb}
-use Rattle.kinds.specs.Rows.{Row, Shape, blank}
+use Rattle.std.proofs.Math.Seq.{take-append_seam}
+use Rattle.std.proofs.lemmas.List.{length-take-le}
+use Rattle.std.proofs.lemmas.Grind.{common_steps}
+use Rattle.kinds.specs.Rows.{Row, blank}
+use Rattle.kinds.specs.declared.kind.Kind.{Ghosts}
 use Rattle.model.specs.Calls.{new, next_free}
+use Rattle.model.specs.Headers.{Header, header, free_header}
 use Rattle.model.specs.State.{State}
-use Rattle.model.specs.Headers.{Header, free_header}
-use Rattle.store.specs.Tables.{table_test, table_size}
+use Rattle.model.specs.declared.heads.Head.{Head}
+use Rattle.store.specs.Sizes.{size_over}
+use Rattle.store.specs.declared.tables.Tables.{Tables}
+
+module _ {K : Type 0} (t : Tables K) where
+  pub size_few : size_over t ≤ 4095
+  size_few = grind (arith, common_steps)
+
+  pub size_within : (size_over t ≤ length t.records.now) × (size_over t ≤ length t.heads.now)
+  size_within = (grind (arith, common_steps), grind (arith, common_steps))
+
+-- the entries that were written at the front of a table are its first n
+front_written : {X : Type 0} (n : ℕ) (old written : List X) → length written ≡ length (take n old) → n ≤ length old → take n (written ++ drop n old) ≡ written
+front_written n old written k room =
+    ap (λ i. take i (written ++ drop n old)) (sym (k ∙ length-take-le n old room)) ∙ take-append_seam written (drop n old)
+
+-- where none are written, all is as it was
+pub none_written : {X : Type 0} (n : ℕ) (old written : List X) → length written ≡ length (take n old) → n ≡ 0 → written ++ drop n old ≡ old
+none_written zero old [] k z = refl
+none_written zero old (x ∷ xs) k z = absurd (omega arith)
+none_written (suc n) old written k z = absurd (omega arith)
 
 abbrev free_state : List Header → List Row → ℕ → State
 free_state hs ws f = record { heads = hs; rows = ws; candidates = []; front = f }
 
-pub record Fitting (n heads list work : ℕ) : Type 0 where
-  pub some : n ≡ 0 → ⊥
-  pub few : n ≤ 4095
-  pub heads_same : heads ≡ n
-  pub list_same : list ≡ n
-  pub work_room : 2 * n ≤ work
-
-tests : (a b : Bool) → ◌≡◌ {A = ℕ} (cond a 1 (cond b 0 2)) 0 → (a ≡ false) × (b ≡ true)
-tests true b e = let no : ⊥ = omega arith in absurd no
-tests false true e = (refl, refl)
-tests false false e = let no : ⊥ = omega arith in absurd no
-
-pub fitting : (n heads list work : ℕ) → table_test n heads list work ≡ 0 → Fitting n heads list work
-fitting n heads list work e =
-    let t = tests (eqb n 0 || ltb 4095 n) (eqb heads n && (eqb list n && leb (2 * n) work)) e in
-    let records = or_parts (eqb n 0) (ltb 4095 n) t.0 in
-    let others = and_parts (eqb heads n) (eqb list n && leb (2 * n) work) t.1 in
-    let rest = and_parts (eqb list n) (leb (2 * n) work) others.1 in
-    record {
-      some = eqb-false n 0 records.0;
-      few = ltb-false 4095 n records.1;
-      heads_same = eqb-true heads n others.0;
-      list_same = eqb-true list n rest.0;
-      work_room = leb-true (2 * n) work rest.1;
-    }
-
-pub size_fitting : (n heads list work : ℕ) → table_test n heads list work ≡ 0 → table_size n heads list work ≡ n
-size_fitting n heads list work e = cond-true (eqb (table_test n heads list work) 0) n 0 (eq-eqb (table_test n heads list work) 0 e)
-
-pub size_refused : (n heads list work : ℕ) → (table_test n heads list work ≡ 0 → ⊥) → table_size n heads list work ≡ 0
-size_refused n heads list work e = cond-false (eqb (table_test n heads list work) 0) n 0 (ne_eqb (table_test n heads list work) 0 e)
-
--- the state that the filled tables of n records mean
-pub made_state :
-    (k : Shape) (n size : ℕ) (hs : List Header) (ws : List Row) → size ≡ n → (n ≡ 0 → ⊥) →
-    hs ≡ map (λ r. free_header (next_free n r)) (range_with_len 1 n) → ws ≡ replicate n (blank k) →
-    record { heads = hs; rows = ws; candidates = []; front = 1 } ≡ new k size
-made_state k n size hs ws same some heads rows =
-    let front : 1 ≡ min n 1 = omega arith in
-    ap (λ (x : List Header). free_state x ws 1) heads
-    ∙ ap (λ (x : List Row). free_state (map (λ r. free_header (next_free n r)) (range_with_len 1 n)) x 1) rows
-    ∙ ap (free_state (map (λ r. free_header (next_free n r)) (range_with_len 1 n)) (replicate n (blank k))) front
-    ∙ ap (new k) (sym same)
+-- blank records and chained heads in front, an empty list, and the first record at the front of the chain
+pub made :
+    {K : Type 0} (g : Ghosts K) (t : Tables K) (n front : ℕ) (blanked : List K) (chained : List Head) →
+    n ≡ size_over t → front ≡ min n 1 →
+    length blanked ≡ length (take n t.records.now) → length chained ≡ length (take n t.heads.now) →
+    map g.row blanked ≡ replicate (length (take n t.records.now)) (blank g.shape) →
+    map header chained ≡ map (λ r. free_header (next_free (length (take n t.heads.now)) r)) (range_with_len 1 (length (take n t.heads.now))) →
+    free_state (map header (take n (chained ++ drop n t.heads.now))) (map g.row (take n (blanked ++ drop n t.records.now))) front ≡ new g.shape (size_over t)
+made g t n front blanked chained same first k j rows chain =
+    let within = size_within t in
+    let a : n ≤ length t.records.now = omega (arith, same, within.0) in
+    let b : n ≤ length t.heads.now = omega (arith, same, within.1) in
+    let m = length-take-le n t.records.now a ∙ same in
+    let l = length-take-le n t.heads.now b ∙ same in
+    let ws = ap (map g.row) (front_written n t.records.now blanked k a) ∙ rows ∙ ap (λ i. replicate i (blank g.shape)) m in
+    let xs = ap (map header) (front_written n t.heads.now chained j b) ∙ chain ∙ ap (λ i. map (λ x. free_header (next_free i x)) (range_with_len 1 i)) l in
+    let one = first ∙ ap (λ i. min i 1) same in
+    cc

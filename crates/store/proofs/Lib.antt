@@ -1,2 +1,3 @@
+pub mod Evidence
 mod Fitting
 pub mod Views

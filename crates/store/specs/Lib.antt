@@ -1,2 +1,4 @@
+pub mod Meaning
+pub mod Sizes
 pub mod Tables
 pub mod View

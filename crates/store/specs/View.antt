@@ -1,59 +1,26 @@
--- What the tables of a store mean, and what a lawful store is.
-use Rattle.std.specs.Prelude.{◌≡◌, ◌*◌, ◌≤◌, map, length, take}
+-- What a store means between calls, and what it keeps.
+use Rattle.std.specs.Prelude.{◌≡◌}
 use Rattle.kinds.specs.declared.kind.Kind.{Ghosts}
 use Rattle.model.specs.State.{State}
 use Rattle.model.specs.Lawful.{Lawful}
-use Rattle.model.specs.Headers.{header}
-use Rattle.model.specs.Walk.{Progress}
-use Rattle.reclaim.specs.declared.records.Records as reclaim
-use Rattle.walks.specs.declared.stacked.Stacked as walks
+use Rattle.store.specs.Meaning.{meaning, Roomy}
 use Rattle.store.specs.declared.table.Store.{Store}
 
--- the first N entries of the record table and the heads, and the first entries of the list, as many as are listed
-abbrev pub view : {K : Type 0} → Ghosts K → Store K → State
-view g s = record {
-  heads = map header (take s.n s.heads.now);
-  rows = map g.row (take s.n s.records.now);
-  candidates = take s.listed s.list.now;
-  front = s.front;
-}
+-- what its tables mean
+abbrev pub view : {K : Type 0} (g : Ghosts K) → Store K g → State
+view g s = meaning g s.contents
 
--- the store on its way through a call
-abbrev pub progress : {K : Type 0} → Ghosts K → Store K → Progress
-progress g s = record { store = view g s; given = s.given }
-
--- the tables have room for N records
-pub record Roomy {K : Type 0} (s : Store K) : Type 0 where
-  pub records_room : s.n ≤ length s.records.now
-  pub heads_room : s.n ≤ length s.heads.now
-  pub list_room : s.n ≤ length s.list.now
-  pub work_room : 2 * s.n ≤ length s.work.now
-  pub listed_room : s.listed ≤ s.n
-
--- the store as what a walk, a release and a collection need
-abbrev pub stacked : {K : Type 0} → Ghosts K → walks.Ghosts (Store K)
-stacked g = record {
-  progress = λ s. progress g s;
-  stack = λ s. s.work.now;
-  table = λ s. s.list.now;
-  sound = λ s. Roomy s;
-  width = g.shape.links;
-}
-
-abbrev pub records : {K : Type 0} → Ghosts K → reclaim.Ghosts (Store K)
-records g = record { shape = g.shape }
-
--- a lawful store
-pub record LawfulStore {K : Type 0} (g : Ghosts K) (s : Store K) : Type 0 where
-  pub room : Roomy s
+-- a lawful store; every store is one, as its type says
+pub record LawfulStore {K : Type 0} (g : Ghosts K) (s : Store K g) : Type 0 where
+  pub room : Roomy s.contents
   pub rules : Lawful g.shape (view g s)
 
 -- nothing is altered, in any table
-pub record Same {K : Type 0} (a b : Store K) : Type 0 where
-  pub records_same : b.records.now ≡ a.records.now
-  pub heads_same : b.heads.now ≡ a.heads.now
-  pub list_same : b.list.now ≡ a.list.now
-  pub work_same : b.work.now ≡ a.work.now
-  pub n_same : b.n ≡ a.n
-  pub listed_same : b.listed ≡ a.listed
-  pub front_same : b.front ≡ a.front
+pub record Same {K : Type 0} {g : Ghosts K} (a b : Store K g) : Type 0 where
+  pub records_same : b.contents.tables.records.now ≡ a.contents.tables.records.now
+  pub heads_same : b.contents.tables.heads.now ≡ a.contents.tables.heads.now
+  pub list_same : b.contents.tables.list.now ≡ a.contents.tables.list.now
+  pub work_same : b.contents.tables.work.now ≡ a.contents.tables.work.now
+  pub n_same : b.contents.n ≡ a.contents.n
+  pub listed_same : b.contents.listed ≡ a.contents.listed
+  pub front_same : b.contents.front ≡ a.contents.front

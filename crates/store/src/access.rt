@@ -3,51 +3,47 @@ ghost use Rattle.std.specs.Prelude.{◌≡◌, ◌<◌, ◌≤◌};
 ghost use Rattle.model.specs.Release.{moved};
 ghost use Rattle.model.specs.State.{head, row, with_head, with_row};
 ghost use Rattle.model.specs.Headers.{header};
-ghost use Rattle.store.specs.View.{view, progress, Roomy};
+ghost use Rattle.store.specs.Meaning.{meaning, progress};
 
-use crate::table::Store;
+use crate::contents::Contents;
 use kinds::kind::Kind;
 use model::heads::Head;
 
-impl<'a, K: Kind> Store<'a, K> {
+impl<'a, K: Kind> Contents<'a, K> {
     // The head of record `r`.
     pub(crate) fn head(&self, r: usize) -> Head
-        requires room { Roomy self.now }
         requires within { (1 ≤ r) × (r ≤ self.now.n) }
-        ensures value { header result ≡ head (view K.Kind self.now) r }
+        ensures value { header result ≡ head (meaning K.Kind self.now) r }
     {
-        self.heads[r - 1]
+        self.tables.heads[r - 1]
     }
 
+    #[tactic(auto, using(crate::proofs::Views::set_front))]
     pub(crate) fn set_head(&mut self, r: usize, h: Head)
-        requires room { Roomy self.old }
         requires within { (1 ≤ r) × (r ≤ self.old.n) }
-        ensures after { progress K.Kind self.new ≡ moved (progress K.Kind self.old) (with_head (view K.Kind self.old) r (header h)) }
-        ensures others { self.new.work.now ≡ self.old.work.now }
-        ensures aside { self.new.list.now ≡ self.old.list.now }
-        ensures room { Roomy self.new }
+        ensures after { progress K.Kind self.new ≡ moved (progress K.Kind self.old) (with_head (meaning K.Kind self.old) r (header h)) }
+        ensures others { self.new.tables.work.now ≡ self.old.tables.work.now }
+        ensures aside { self.new.tables.list.now ≡ self.old.tables.list.now }
     {
-        self.heads[r - 1] = h;
+        self.tables.heads[r - 1] = h;
     }
 
     // Record `r`.
     pub(crate) fn record(&self, r: usize) -> K
-        requires room { Roomy self.now }
         requires within { (1 ≤ r) × (r ≤ self.now.n) }
-        ensures value { K.Kind.row result ≡ row (view K.Kind self.now) r }
+        ensures value { K.Kind.row result ≡ row (meaning K.Kind self.now) r }
     {
-        let records = &*self.records;
+        let records = &*self.tables.records;
         records[r - 1]
     }
 
+    #[tactic(auto, using(crate::proofs::Views::set_front))]
     pub(crate) fn set_record(&mut self, r: usize, x: K)
-        requires room { Roomy self.old }
         requires within { (1 ≤ r) × (r ≤ self.old.n) }
-        ensures after { progress K.Kind self.new ≡ moved (progress K.Kind self.old) (with_row (view K.Kind self.old) r (K.Kind.row x)) }
-        ensures others { self.new.work.now ≡ self.old.work.now }
-        ensures aside { self.new.list.now ≡ self.old.list.now }
-        ensures room { Roomy self.new }
+        ensures after { progress K.Kind self.new ≡ moved (progress K.Kind self.old) (with_row (meaning K.Kind self.old) r (K.Kind.row x)) }
+        ensures others { self.new.tables.work.now ≡ self.old.tables.work.now }
+        ensures aside { self.new.tables.list.now ≡ self.old.tables.list.now }
     {
-        self.records[r - 1] = x;
+        self.tables.records[r - 1] = x;
     }
 }

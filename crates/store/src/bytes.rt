@@ -2,7 +2,7 @@
 ghost use Rattle.std.specs.Prelude.{◌≡◌, true, is_err};
 ghost use Rattle.model.specs.Calls.{byte};
 ghost use Rattle.steps.specs.Replies.{granted, leaving};
-ghost use Rattle.store.specs.View.{view, LawfulStore, Same};
+ghost use Rattle.store.specs.View.{view, Same};
 
 use crate::table::Store;
 use altering::write_byte;
@@ -12,11 +12,9 @@ use model::refusals::Refusal;
 impl<'a, K: Kind> Store<'a, K> {
     // Sets byte `b` of a held record.
     pub fn write_byte(&mut self, r: usize, b: usize, v: u8) -> Result<(), Refusal>
-        requires lawful { LawfulStore K.Kind self.old }
         ensures answer { leaving (granted result) (view K.Kind self.new) ≡ byte K.Kind.shape (view K.Kind self.old) r b v }
-        ensures lawful { LawfulStore K.Kind self.new }
         ensures untouched { is_err result ≡ true → Same self.old self.new }
     {
-        write_byte(self, r, b, v)
+        write_byte(&mut self.contents, r, b, v)
     }
 }

@@ -1,14 +1,14 @@
 // The store as what the calls need.
-ghost use Rattle.store.specs.View.{view};
+ghost use Rattle.store.specs.Meaning.{meaning};
 
+use crate::contents::Contents;
 use crate::counts::count_used;
-use crate::table::Store;
 use kinds::kind::{Kind, Numbers};
 use reclaim::records::Records;
 use steps::fields::Fields;
 use walks::stacked::Stacked;
 
-impl<'a, K: Kind> Fields for Store<'a, K> {
+impl<'a, K: Kind> Fields for Contents<'a, K> {
     fn size(&self) -> usize {
         self.n
     }
@@ -42,7 +42,7 @@ impl<'a, K: Kind> Fields for Store<'a, K> {
     }
 
     fn used(&self) -> usize {
-        let heads = &*self.heads;
+        let heads = &*self.tables.heads;
         count_used(heads, self.n)
     }
 

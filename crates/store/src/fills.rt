@@ -12,9 +12,7 @@ use model::heads::Head;
 pub(crate) fn blank_records<K: Kind>(records: &mut [K])
     ensures after { map K.Kind.row records.new ≡ replicate (length records.old) (blank_row K.Kind.shape) }
 {
-    for i in 0..records.len() {
-        records[i] = K::blank();
-    }
+    records.fill_with(|| K::blank());
 }
 
 // Frees every record, chained 1, 2, up to the last; there are no more than a lawful store has.
@@ -23,8 +21,8 @@ pub(crate) fn chain_heads(heads: &mut [Head])
     ensures after { map header heads.new ≡ map (λ r. free_header (next_free (length heads.old) r)) (range_with_len 1 (length heads.old)) }
 {
     let n = heads.len();
-    for i in 0..n {
+    for (i, head) in heads.iter_mut().enumerate() {
         let next = if i + 1 < n { i + 2 } else { 0 };
-        heads[i] = Head::free(next as u16);
+        *head = Head::free(next as u16);
     }
 }

@@ -2,7 +2,7 @@
 ghost use Rattle.std.specs.Prelude.{◌≡◌, true, is_err};
 ghost use Rattle.model.specs.Calls.{make, hold};
 ghost use Rattle.steps.specs.Replies.{numbered, leaving};
-ghost use Rattle.store.specs.View.{view, LawfulStore, Same};
+ghost use Rattle.store.specs.View.{view, Same};
 
 use crate::table::Store;
 use kinds::kind::Kind;
@@ -11,21 +11,17 @@ use model::refusals::Refusal;
 impl<'a, K: Kind> Store<'a, K> {
     // A record from the front of the free chain, with one hold.
     pub fn make(&mut self) -> Result<usize, Refusal>
-        requires lawful { LawfulStore K.Kind self.old }
         ensures answer { leaving (numbered result) (view K.Kind self.new) ≡ make (view K.Kind self.old) }
-        ensures lawful { LawfulStore K.Kind self.new }
         ensures untouched { is_err result ≡ true → Same self.old self.new }
     {
-        handing::make(self)
+        handing::make(&mut self.contents)
     }
 
     // One more hold on a held record, which is raised for it.
     pub fn hold(&mut self, r: usize) -> Result<usize, Refusal>
-        requires lawful { LawfulStore K.Kind self.old }
         ensures answer { leaving (numbered result) (view K.Kind self.new) ≡ hold (view K.Kind self.old) r }
-        ensures lawful { LawfulStore K.Kind self.new }
         ensures untouched { is_err result ≡ true → Same self.old self.new }
     {
-        handing::hold(self, r)
+        handing::hold(&mut self.contents, r)
     }
 }

@@ -3,6 +3,7 @@
 
 mod access;
 mod bytes;
+pub mod contents;
 mod counts;
 pub mod fields;
 mod fills;
@@ -15,3 +16,4 @@ pub mod plays;
 pub mod records;
 pub mod stack;
 pub mod table;
+pub mod tables;

@@ -1,66 +1,77 @@
 // Which tables a store can be made over, and the making of one.
 ghost use Rattle.std.specs.Prelude.{◌≡◌, length};
 ghost use Rattle.model.specs.Calls.{new as new_state};
-ghost use Rattle.store.specs.Tables.{table_test, table_size};
-ghost use Rattle.store.specs.View.{view, LawfulStore};
+ghost use Rattle.store.specs.Sizes.{size_over};
+ghost use Rattle.store.specs.Tables.{table_test, refusal_number};
+ghost use Rattle.store.specs.View.{view};
 
+use crate::contents::Contents;
 use crate::fills::{blank_records, chain_heads};
 use crate::table::Store;
+use crate::tables::Tables;
 use kinds::kind::Kind;
 use model::heads::Head;
 use model::refusals::Refusal;
 
-// 0 where a store can be made over the tables, and else the number of the refusal.
-pub fn test_tables<K: Kind>(records: &[K], heads: &[Head], list: &[u16], work: &[u32]) -> u8
-    ensures value { result ≡ table_test (length records.now) (length heads.now) (length list.now) (length work.now) }
+// Whether a store can be made over the tables, and else why not.
+pub fn check_tables<K: Kind>(
+    records: &[K],
+    heads: &[Head],
+    list: &[u16],
+    work: &[u32],
+) -> Result<(), Refusal>
+    ensures value { refusal_number result ≡ table_test (length records.now) (length heads.now) (length list.now) (length work.now) }
 {
     let n = records.len();
     if n == 0 || n > 4095 {
-        return Refusal::NoRecords.number();
+        return Err(Refusal::NoRecords);
     }
     if heads.len() != n || list.len() != n || work.len() < 2 * n {
-        return Refusal::WrongLengths.number();
+        return Err(Refusal::WrongLengths);
     }
-    0
+    Ok(())
+}
+
+// The same by number: 0 where a store can be made over the tables, and else the number of the refusal.
+pub fn test_tables<K: Kind>(records: &[K], heads: &[Head], list: &[u16], work: &[u32]) -> u8
+    ensures value { result ≡ table_test (length records.now) (length heads.now) (length list.now) (length work.now) }
+{
+    match check_tables(records, heads, list, work) {
+        Ok(()) => 0,
+        Err(why) => why.number(),
+    }
 }
 
 impl<'a, K: Kind> Store<'a, K> {
     // A store of free records over tables that fit; over others nothing is written, and the store has no record.
-    pub fn new(
-        records: &'a mut [K],
-        heads: &'a mut [Head],
-        list: &'a mut [u16],
-        work: &'a mut [u32],
-    ) -> Store<'a, K>
-        ensures store { view K.Kind result ≡ new_state K.Kind.shape (table_size (length records.old) (length heads.old) (length list.old) (length work.old)) }
-        ensures lawful { LawfulStore K.Kind result }
-        ensures untouched { table_size (length records.old) (length heads.old) (length list.old) (length work.old) ≡ 0 → (result.records.now ≡ records.old) × (result.heads.now ≡ heads.old) }
-        ensures others { (result.list.now ≡ list.old) × (result.work.now ≡ work.old) }
+    pub fn new(tables: Tables<'a, K>) -> Store<'a, K>
+        ensures store { view K.Kind result ≡ new_state K.Kind.shape (size_over tables.entry) }
+        ensures untouched { size_over tables.entry ≡ 0 → (result.contents.tables.records.now ≡ tables.entry.records.now) × (result.contents.tables.heads.now ≡ tables.entry.heads.now) }
+        ensures others { (result.contents.tables.list.now ≡ tables.entry.list.now) × (result.contents.tables.work.now ≡ tables.entry.work.now) }
     {
-        if test_tables(records, heads, list, work) != 0 {
-            return Store {
-                records,
-                heads,
-                list,
-                work,
-                n: 0,
-                listed: 0,
-                front: 0,
-                given: 0,
-            };
-        }
-        blank_records(records);
-        chain_heads(heads);
-        let n = records.len();
-        Store {
+        let n = tables.size();
+        // taken apart, since of a slice that is lent through a field a proof knows no element afterwards
+        let Tables {
             records,
             heads,
             list,
             work,
-            n,
-            listed: 0,
-            front: 1,
-            given: 0,
+        } = tables;
+        blank_records(&mut records[..n]);
+        chain_heads(&mut heads[..n]);
+        Store {
+            contents: Contents {
+                tables: Tables {
+                    records,
+                    heads,
+                    list,
+                    work,
+                },
+                n,
+                listed: 0,
+                front: n.min(1),
+                given: 0,
+            },
         }
     }
 }

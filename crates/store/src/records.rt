@@ -1,14 +1,14 @@
 // The store as what release and collection need.
 ghost use Rattle.std.specs.Prelude.{refl};
-ghost use Rattle.store.specs.View.{view};
+ghost use Rattle.store.specs.Meaning.{meaning};
 
-use crate::table::Store;
+use crate::contents::Contents;
 use kinds::kind::Kind;
 use model::heads::Head;
 use reclaim::records::Records;
 use walks::stacked::Stacked;
 
-impl<'a, K: Kind> Records for Store<'a, K> {
+impl<'a, K: Kind> Records for Contents<'a, K> {
     ghost shape = { K.Kind.shape };
 
     fn read_head(&self, r: usize) -> Head {
@@ -36,11 +36,11 @@ impl<'a, K: Kind> Records for Store<'a, K> {
     }
 
     fn candidate(&self, i: usize) -> usize {
-        self.list[i] as usize
+        usize::from(self.tables.list[i])
     }
 
     fn push(&mut self, r: usize) {
-        self.list[self.listed] = r as u16;
+        self.tables.list[self.listed] = r as u16;
         self.listed += 1;
     }
 

@@ -1,16 +1,16 @@
 // The store as what a walk needs: links, and the work table as its stack.
-ghost use Rattle.store.specs.View.{progress as progress_of, Roomy};
+ghost use Rattle.store.specs.Meaning.{progress as progress_of, Roomy};
 
-use crate::table::Store;
+use crate::contents::Contents;
 use kinds::kind::Kind;
 use walks::stacked::Stacked;
 
-impl<'a, K: Kind> Stacked for Store<'a, K> {
+impl<'a, K: Kind> Stacked for Contents<'a, K> {
     ghost progress = { λ s. progress_of K.Kind s };
 
-    ghost stack = { λ s. s.work.now };
+    ghost stack = { λ s. s.tables.work.now };
 
-    ghost table = { λ s. s.list.now };
+    ghost table = { λ s. s.tables.list.now };
 
     ghost sound = { λ s. Roomy s };
 
@@ -21,14 +21,15 @@ impl<'a, K: Kind> Stacked for Store<'a, K> {
     }
 
     fn link(&self, r: usize, i: usize) -> usize {
-        self.record(r).link(i) as usize
+        usize::from(self.record(r).link(i))
     }
 
     fn entry(&self, at: usize) -> usize {
-        self.work[at] as usize
+        // `as`, here and where numbers are stored: there is no `From<u32>` for a `usize`, and a number that is stored is known to fit
+        self.tables.work[at] as usize
     }
 
     fn put(&mut self, at: usize, n: usize) {
-        self.work[at] = n as u32;
+        self.tables.work[at] = n as u32;
     }
 }

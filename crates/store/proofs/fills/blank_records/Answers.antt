@@ -1,28 +1,19 @@
-use Rattle.std.proofs.Common.{◌≡◌, [], ◌∷◌, ◌++◌, map, length, take, replicate, sym, ap, ◌∙◌, arith}
-use Rattle.std.proofs.lemmas.List.{take_all, take_more_set, map_push, replicate_more}
+use Rattle.std.proofs.Common.{◌≡◌, ◌+◌, [], ◌∷◌, ◌++◌, map, length, replicate, refl, ap, ◌∙◌, rules, arith, length-append}
+use Rattle.std.proofs.lemmas.Fn.{chained_keeps}
+use Rattle.std.proofs.lemmas.List.{map_push, replicate_more}
 use Rattle.kinds.specs.Rows.{blank}
 use Rattle.store.proofs.fills.blank_records.Goals as goal
 
-pub loop-i-preserved : goal.loop-i-preserved
-loop-i-preserved g c =
-    let f = g.K.Kind.row in
-    let b = blank g.K.Kind.shape in
-    let xs = c.loop-i.records in
-    let i = c.loop-i.i in
-    let y = c.blank.result in
-    ap (map f) (take_more_set xs i y (omega arith))
-    ∙ map_push f (take i xs) y
-    ∙ ap (λ ws. ws ++ f y ∷ []) c.loop-i.invariant
-    ∙ ap (λ w. replicate i b ++ w ∷ []) c.blank.ensures.value
-    ∙ replicate_more i b
-
 pub returns : goal.returns
 returns g c =
-    let f = g.K.Kind.row in
-    let xs = c.loop-i.records in
-    let i = c.loop-i.i in
-    let all : i ≡ length c.args.records.now = omega arith in
-    record {
-      after =
-          sym (ap (map f) (take_all i xs (omega arith))) ∙ c.loop-i.invariant ∙ ap (λ n. replicate n (blank g.K.Kind.shape)) all;
-    }
+    let row = g.K.Kind.row in
+    let b = blank g.K.Kind.shape in
+    let filled = chained_keeps _ (λ xs _. map row xs ≡ replicate (length xs) b)
+    (λ xs q x v j called.
+    let e : row x ≡ b = search rules in
+    let pushed = map_push row xs x in
+    let more = replicate_more (length xs) b in
+    let n : length (xs ++ x ∷ []) ≡ length xs + 1 = omega (arith, length-append xs (x ∷ [])) in
+    cc)
+    _ _ _ refl c.fill_with.ensures.ran.1 in
+    record { after = filled ∙ ap (λ n. replicate n b) c.fill_with.ensures.len }

@@ -1,60 +1,37 @@
-use Rattle.std.proofs.Common.{◌≡◌, ◌+◌, ◌≤◌, min, [], ◌∷◌, ◌++◌, length, get_or, take, drop, set, sym, refl, ap, ◌∙◌, subst, ⊎_elim, arith}
-use Rattle.std.proofs.lemmas.List.{take_more, take_more_set, drop_all, drop-set-lt, length-take-le, length-replicate, drop-drop}
-use Rattle.std.proofs.lemmas.Bool.{cases_lt}
-use Rattle.kinds.specs.Rows.{blank}
+use Rattle.std.proofs.Common.{◌≡◌, ◌+◌, min, [], length, get_or, take, set, sym, ◌∙◌, subst, arith}
+use Rattle.std.proofs.lemmas.List.{take_more, take_more_set, length-take-le}
 use Rattle.model.specs.History.{After, events, then}
 use Rattle.model.specs.declared.calls.Call.TheVariants.{Make}
 use Rattle.model.proofs.Histories.{after_none, every_history, events_push, events_all}
-use Rattle.store.specs.Tables.{table_size}
+use Rattle.store.specs.Sizes.{size_over}
 use Rattle.store.specs.View.{view}
+use Rattle.std.proofs.lemmas.Grind.{common_steps}
+use Rattle.store.proofs.Fitting.{size_few}
 use Rattle.store.proofs.plays.play.Goals as goal
-
-pub perform-requires : goal.perform-requires
-perform-requires g c = record { lawful = c.loop-i.invariant.0 }
-
-pub loop-i-init : goal.loop-i-init
-loop-i-init g c = (c.new-store.ensures.lawful, λ n a. a, refl)
 
 pub loop-i-preserved : goal.loop-i-preserved
 loop-i-preserved g c =
-    let k = g.K.Kind.shape in
     let i = c.loop-i.i in
     let cs = c.args.calls.now in
     let rs = c.loop-i.replies in
-    let z = view g.K.Kind c.perform.new.self in
-    let more : events (take (i + 1) cs) (take (i + 1) (set rs i c.perform.result)) ≡ then (events (take i cs) (take i rs)) (get_or cs i Make) c.perform.result =
-    ap (λ xs. events xs (take (i + 1) (set rs i c.perform.result))) (take_more cs i Make (omega arith))
-    ∙ ap (events (take i cs ++ (get_or cs i Make ∷ []))) (take_more_set rs i c.perform.result (omega arith))
-    ∙ events_push (take i cs) (take i rs) (get_or cs i Make) c.perform.result
-    (length-take-le i cs (omega arith) ∙ sym (length-take-le i rs (omega arith))) in (
-      c.perform.ensures.lawful,
-      λ n a. subst (λ es. After k n es z) (sym more) (c.perform.ensures.history n _ (c.loop-i.invariant.1 n a)).0,
-      drop-set-lt (i + 1) rs i c.perform.result (omega arith)
-          ∙ sym (drop-drop 1 i rs) ∙ ap (drop 1) c.loop-i.invariant.2 ∙ drop-drop 1 i c.args.replies.now,
+    let r = c.perform.result in
+    let more : events (take (i + 1) cs) (take (i + 1) (set rs i r)) ≡ then (events (take i cs) (take i rs)) (get_or cs i Make) r =
+    let called = take_more cs i Make (omega arith) in
+    let answered = take_more_set rs i r (omega arith) in
+    let pushed = events_push (take i cs) (take i rs) (get_or cs i Make) r (length-take-le i cs (omega arith) ∙ sym (length-take-le i rs (omega arith))) in
+    cc in (
+      λ n a. subst (λ es. After g.K.Kind.shape n es (view g.K.Kind c.perform.new.self)) (sym more) (c.perform.ensures.history n _ (c.loop-i.invariant.0 n a)).0,
+      grind (arith, common_steps),
     )
 
-pub returns : goal.returns
-returns g c =
+pub returns-clause-answers : goal.returns-clause-answers
+returns-clause-answers g c =
     let k = g.K.Kind.shape in
-    let i = c.loop-i.i in
-    let cs = c.args.calls.now in
-    let rs = c.loop-i.replies in
-    let z = view g.K.Kind c.loop-i.store in
-    let made = c.new-store.ensures in
-    let size =
-    table_size (length c.args.records.now) (length c.args.heads.now) (length c.args.list.now) (length c.args.work.now) in
-    let few : size ≤ 4095 =
-    omega (arith, made.lawful.rules.few, ap (λ s. length s.rows) made.store, length-replicate size (blank k)) in
-    let none = subst (After k size []) (sym made.store) (after_none k size few) in
-    let all : i ≡ min (length cs) (length rs) = omega (arith, c.min-i-end.ensures) in
-    let answers = subst (λ es. After k size es z) (events_all i cs rs all) (c.loop-i.invariant.1 size none) in
-    record {
-      lawful = c.loop-i.invariant.0;
-      answers = answers;
-      history = (every_history k size (events cs rs) z answers).1;
-      untouched = ⊎_elim
-          (λ short. drop_all (length cs) rs (omega arith) ∙ sym (drop_all (length cs) c.args.replies.now (omega arith)))
-          (λ long. let e : i ≡ length cs = omega arith in
-          subst (λ n. drop n rs ≡ drop n c.args.replies.now) e c.loop-i.invariant.2)
-          (cases_lt (length rs) (length cs));
-    }
+    let size = size_over c.args.tables in
+    let made = c.new-store.ensures.store in
+    let none = subst (After k size []) (sym made) (after_none k size (size_few c.args.tables)) in
+    let all : c.loop-i.i ≡ min (length c.args.calls.now) (length c.loop-i.replies) = omega (arith, c.min-i-end.ensures) in
+    subst (λ es. After k size es (view g.K.Kind c.loop-i.store)) (events_all c.loop-i.i c.args.calls.now c.loop-i.replies all) (c.loop-i.invariant.0 size none)
+
+pub returns-clause-history : goal.returns-clause-history
+returns-clause-history g c = (every_history g.K.Kind.shape (size_over c.args.tables) _ _ (returns-clause-answers g c)).1

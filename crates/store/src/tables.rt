@@ -1,0 +1,40 @@
+// The tables that the host lends.
+ghost use Rattle.std.specs.Prelude.{◌≡◌};
+ghost use Rattle.store.specs.Sizes.{size_over, test_over};
+ghost use Rattle.store.specs.Tables.{refusal_number};
+
+use crate::makes::check_tables;
+use kinds::kind::Kind;
+use model::heads::Head;
+use model::refusals::Refusal;
+
+// The four tables of a store.
+#[derive(Drop)]
+pub struct Tables<'a, K> {
+    pub records: &'a mut [K],
+    pub heads: &'a mut [Head],
+    // the candidate list
+    pub list: &'a mut [u16],
+    // the stack of a walk
+    pub work: &'a mut [u32],
+}
+
+impl<'a, K: Kind> Tables<'a, K> {
+    // Whether a store can be made over the tables, and else why not.
+    pub fn test(&self) -> Result<(), Refusal>
+        ensures value { refusal_number result ≡ test_over self.now }
+    {
+        let records = &*self.records;
+        check_tables(records, self.heads, self.list, self.work)
+    }
+
+    // How many records a store over the tables has; none where they do not fit.
+    pub(crate) fn size(&self) -> usize
+        ensures value { result ≡ size_over self.now }
+    {
+        match self.test() {
+            Ok(()) => self.records.len(),
+            Err(_) => 0,
+        }
+    }
+}
