@@ -1,10 +1,10 @@
 -- What is left of a line while its words are split off.
-use Rattle.std.specs.Prelude.{ℕ, Bool, true, false, List, [], ◌∷◌, Some, None, Option}
+use Rattle.std.specs.Prelude.{ℕ, zero, suc, Bool, true, false, List, [], ◌∷◌, Some, None, Option}
 use Rattle.std.specs.Borrow.{Bor}
 use Rattle.keyboard.specs.declared.words.Word.{Word}
 use Rattle.keyboard.specs.declared.words.Word.TheVariants.{Command, Digits}
 use Rattle.keyboard.specs.declared.words.Words.{Words}
-use Rattle.keyboard.specs.Lines.{words, numeral}
+use Rattle.keyboard.specs.Lines.{words, numeral, made, alone}
 
 abbrev pub words_of : Option (Bor (List ℕ)) → List (List ℕ)
 words_of None = []
@@ -30,3 +30,9 @@ first_number (w ∷ ws) = numeral w
 abbrev pub others : List (List ℕ) → List (List ℕ)
 others [] = []
 others (w ∷ ws) = ws
+
+-- k words that are numerals, and no word more
+abbrev pub numbers : ℕ → List (List ℕ) → Option (List ℕ)
+numbers zero ws = alone [] ws
+numbers (suc k) [] = None
+numbers (suc k) (w ∷ ws) = made (numeral w) (λ n. made (numbers k ws) (λ ns. Some (n ∷ ns)))
