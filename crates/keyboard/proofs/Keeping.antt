@@ -2,6 +2,7 @@
 use Rattle.std.proofs.Common.{◌≡◌, ℕ, ◌<◌, List, [], ◌∷◌, ◌++◌, length, take, sym, ◌∙◌, ⊎_elim, arith}
 use Rattle.std.proofs.lemmas.List.{length-take-le, length_push, take_all, take-append-le, take_at}
 use Rattle.std.proofs.lemmas.Bool.{cases_lt, lt-leb}
+use Rattle.keyboard.specs.Laws.{Suffices}
 use Rattle.keyboard.specs.Lines.{meaning}
 
 pub kept_more : (bs : List ℕ) (b : ℕ) → length bs < 81 → take 81 (bs ++ b ∷ []) ≡ bs ++ b ∷ []
@@ -25,3 +26,6 @@ kept_means line =
     (λ short. rw (take_all 81 line (omega arith)))
     (λ long. rw (length-take-le 81 line long, lt-leb (length line) 80 long))
     (cases_lt (length line) 81)
+
+pub suffices : Suffices 81
+suffices = record { next = kept_next; means = kept_means }

@@ -1,5 +1,5 @@
 -- Reading a numeral digit by digit. Assumes nothing.
-use Rattle.std.proofs.Common.{◌≡◌, ℕ, ◌^◌, ◌<◌, ◌≤◌, true, false, List, [], ◌∷◌, length, get_or, Some, None, decimal, Result, IsUtf8, sym, refl, ap, ◌∙◌, ⊎_elim, mul_comm, arith}
+use Rattle.std.proofs.Common.{◌≡◌, ℕ, ◌^◌, ◌<◌, ◌≤◌, true, List, [], ◌∷◌, length, get_or, Some, decimal, Result, IsUtf8, sym, refl, ap, ◌∙◌, ⊎_elim, mul_comm, arith}
 use Rattle.std.specs.Char.{is_ascii_digit}
 use Rattle.std.specs.List.{list_all}
 use Rattle.std.specs.Result.{result_ok}
@@ -10,12 +10,8 @@ use Rattle.std.proofs.lemmas.Str.{IsUtf8-from_ascii}
 use Rattle.std.proofs.lemmas.Str.Parse.{parse_gives, IsNumeralModel, numerals_by_fold, tells_all_ascii_digits, digits_value_short}
 use Rattle.std.proofs.lemmas.Bool.{cases_lt}
 use Rattle.std.proofs.lemmas.Bool.Decides.{nat_tests}
+use Rattle.keyboard.specs.Laws.{DecimalsBelow}
 use Rattle.keyboard.specs.Lines.{written_after, plain, numeral}
-
--- a word that begins with no digit
-pub no_numeral : (w : List ℕ) → is_ascii_digit (get_or w 0 0) ≡ false → numeral w ≡ None
-no_numeral [] other = refl
-no_numeral (b ∷ bs) other = rw other
 
 -- the shelf's laws of digits, for the numbers that are read here
 own : IsNumeralModel (λ w. all_ascii_digits w ≡ true) (written_after 0)
@@ -64,3 +60,6 @@ numeral_from_decimal w n small e =
     let front = plain_decimal n fits in
     let shaped : plain (decimal n) ≡ true = grind (arith, nat_tests) in
     rw (e, digits_decimal own n fits, shaped, digits_value-decimal own n fits)
+
+pub decimals : DecimalsBelow 100000
+decimals w n = (decimal_from_numeral w n, λ h. numeral_from_decimal w n h.0 h.1)

@@ -20,8 +20,9 @@ fn is_plain(word: &[u8]) -> bool
     matches!(word.len(), 1..=5) && (word.len() == 1 || word[0] != b'0')
 }
 
-// The number that a word writes. None where the word is no numeral.
-#[tactic(auto, using(crate::proofs::Reading::digits_are, crate::proofs::Reading::digits_are_text, crate::proofs::Reading::parsed))]
+// The number that a word writes. None where the word is no numeral. `parse` takes a sign and a 0 in front too, so the form is
+// tested first.
+#[tactic(auto, using(crate::proofs::Reading::digits_are_text, crate::proofs::Reading::parsed))]
 pub(crate) fn number(word: &[u8]) -> Option<usize>
     ensures value { result ≡ numeral word.now }
 {

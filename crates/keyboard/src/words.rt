@@ -19,7 +19,6 @@ pub(crate) enum Word<'a> {
 
 impl<'a> Word<'a> {
     // The word with these bytes; its first byte says which kind it is.
-    #[tactic(auto, using(std::proofs::lemmas::Bool::Decides::nat_tests, std::proofs::lemmas::List::get_or_past))]
     fn of(bytes: &'a [u8]) -> Word<'a>
         ensures text { text_of result ≡ bytes.now }
         ensures kind { is_digits result ≡ is_ascii_digit (slice_index bytes.now 0) }
@@ -63,7 +62,6 @@ impl<'a> Words<'a> {
     }
 
     // The form whose command word comes next. None where the next word is the command word of no form.
-    #[tactic(auto, using(crate::proofs::Naming::by_digit))]
     pub(crate) fn form(&mut self) -> Option<Form>
         ensures value { MatchOption result (form (left self.old) ≡ None) (λ f. left self.old ≡ name_of f ∷ left self.new) }
     {
@@ -74,7 +72,6 @@ impl<'a> Words<'a> {
     }
 
     // The number that the next word writes. None where there is no word left, or it is no numeral.
-    #[tactic(auto, using(crate::proofs::Reading::no_numeral))]
     pub(crate) fn number(&mut self) -> Option<usize>
         ensures value { result ≡ first_number (left self.old) }
         ensures after { left self.new ≡ others (left self.old) }

@@ -18,7 +18,8 @@ impl Answer {
     }
 }
 
-// The line of a text and a number.
+// The line of a text and a number. It is put together, and not by `write!`, of which no clause says that it succeeds where
+// there is room.
 fn numbered(words: &str, n: usize) -> Answer
     requires { length words.now ≤ 8 }
     ensures value { line_of result ≡ words.now ++ (decimal n ++ line_feed) }
@@ -42,6 +43,7 @@ fn text(words: &str) -> Answer
 }
 
 // The answer line of a reply.
+#[tactic(auto, using(crate::proofs::Telling::tells))]
 pub fn answer(reply: Reply) -> Answer
     ensures value { line_of result ≡ answer_line reply }
     ensures tells { Tells reply }
