@@ -1,14 +1,17 @@
 -- Bytes that are typed one by one give the output to the whole input.
-use Rattle.std.proofs.Common.{◌≡◌, ℕ, Bool, true, false, cond, eqb, List, [], ◌∷◌, ◌++◌, length, take, sym, refl, ap, ◌∙◌, subst, append_assoc, arith}
+use Rattle.std.proofs.Common.{◌≡◌, ℕ, Bool, true, false, cond, eqb, List, [], ◌∷◌, ◌++◌, length, take, sym, refl, ap, ◌∙◌, append_assoc, arith}
 use Rattle.std.proofs.lemmas.List.{append-nil}
-use Rattle.std.proofs.lemmas.Bool.{cond_both, cond-true, cond-false, ne_eqb, eqb-true}
+use Rattle.std.proofs.lemmas.Bool.{cond-false, ne_eqb}
+use Rattle.std.specs.Fmt.{digits}
 use Rattle.kinds.specs.Rows.{Shape}
 use Rattle.keyboard.specs.Answers.{answer_line}
 use Rattle.keyboard.proofs.Keeping.{kept_next, kept_means}
 use Rattle.model.specs.Calls.{Answered}
 use Rattle.model.specs.State.{State}
+use Rattle.model.specs.Walk.{walk, runs}
 use Rattle.console.specs.Session.{Lined, in_front, lined, all_told, Typed, Whole}
-use Rattle.console.specs.Told.{Stroke, told, told_by, struck, ended, finished}
+use Rattle.console.specs.Worked.{SessionsRight}
+use Rattle.console.specs.Told.{Stroke, told, told_by, finished}
 
 abbrev step : ℕ → Lined → Lined
 step a m = cond (eqb a 10) (record { lines = [] ∷ m.lines; rest = m.rest }) (in_front a m.lines m.rest)
@@ -83,32 +86,32 @@ module _ (k : Shape) (s : State) (input output line : List ℕ) (t : State) (so_
   more_store : (told k t line).store ≡ (all_told k s ((lined input).lines ++ ((lined input).rest ∷ []))).store
   more_store = ap (λ (a : Answered). a.store) same_told ∙ sym (told_push k s (lined input).lines (lined input).rest).1
 
-  typed_feed : Typed k s (input ++ (10 ∷ [])) (output ++ answer_line (told k t line).reply) [] (told k t line).store
-  typed_feed = record {
-    output_so_far = more_output ∙ sym (ap (λ m. (all_told k s m.lines).output) (lined_feed input));
-    line_so_far = sym (ap (λ m. take 81 m.rest) (lined_feed input));
-    store_so_far = more_store ∙ sym (ap (λ m. (all_told k s m.lines).store) (lined_feed input));
-  }
+  -- A line feed: the line is answered, and the next begins.
+  pub typed_line :
+      (b : ℕ) (l o : List ℕ) (z : State) → b ≡ 10 → record { line = l; output = o; store = z } ≡ finished (told k t line) →
+      Typed k s (input ++ (b ∷ [])) (output ++ o) l z
+  typed_line b l o z feed e =
+      rw feed record {
+        output_so_far =
+            ap (λ (x : Stroke). output ++ x.output) e ∙ more_output
+            ∙ sym (ap (λ m. (all_told k s m.lines).output) (lined_feed input));
+        line_so_far = ap (λ (x : Stroke). x.line) e ∙ sym (ap (λ m. take 81 m.rest) (lined_feed input));
+        store_so_far =
+            ap (λ (x : Stroke). x.store) e ∙ more_store ∙ sym (ap (λ m. (all_told k s m.lines).store) (lined_feed input));
+      }
 
-  typed_byte : (b : ℕ) → eqb b 10 ≡ false → Typed k s (input ++ (b ∷ [])) (output ++ []) (take 81 (line ++ (b ∷ []))) t
-  typed_byte b n = record {
-    output_so_far =
-        append-nil output ∙ so_far.output_so_far ∙ sym (ap (λ m. (all_told k s m.lines).output) (lined_byte input b n));
-    line_so_far =
-        ap (λ l. take 81 (l ++ (b ∷ []))) so_far.line_so_far ∙ kept_next (lined input).rest b
-        ∙ sym (ap (λ m. take 81 m.rest) (lined_byte input b n));
-    store_so_far = so_far.store_so_far ∙ sym (ap (λ m. (all_told k s m.lines).store) (lined_byte input b n));
-  }
-
-  -- One byte more.
-  pub typed_more :
-      (b : ℕ) (x : Stroke) → x ≡ struck k t line b → Typed k s (input ++ (b ∷ [])) (output ++ x.output) x.line x.store
-  typed_more b x e =
-      subst (λ (y : Stroke). Typed k s (input ++ (b ∷ [])) (output ++ y.output) y.line y.store) (sym e)
-      (cond_both (eqb b 10) (finished (told k t line)) (record { line = take 81 (line ++ (b ∷ [])); output = []; store = t })
-      (λ (y : Stroke). Typed k s (input ++ (b ∷ [])) (output ++ y.output) y.line y.store)
-      (λ yes_feed. subst (λ c. Typed k s (input ++ (c ∷ [])) (output ++ answer_line (told k t line).reply) [] (told k t line).store) (sym (eqb-true b 10 yes_feed)) typed_feed)
-      (typed_byte b))
+  -- Any other byte: the line goes on.
+  pub typed_byte :
+      (b : ℕ) (l : List ℕ) → (b ≡ 10 → ⊥) → l ≡ take 81 (line ++ (b ∷ [])) → Typed k s (input ++ (b ∷ [])) (output ++ []) l t
+  typed_byte b l other e =
+      let whole = lined_byte input b (ne_eqb b 10 other) in
+      record {
+        output_so_far = append-nil output ∙ so_far.output_so_far ∙ sym (ap (λ m. (all_told k s m.lines).output) whole);
+        line_so_far =
+            e ∙ ap (λ l. take 81 (l ++ (b ∷ []))) so_far.line_so_far ∙ kept_next (lined input).rest b
+            ∙ sym (ap (λ m. take 81 m.rest) whole);
+        store_so_far = so_far.store_so_far ∙ sym (ap (λ m. (all_told k s m.lines).store) whole);
+      }
 
   -- the kept part is empty just where the line is
   same_empty : eqb (length line) 0 ≡ eqb (length (lined input).rest) 0
@@ -119,19 +122,18 @@ module _ (k : Shape) (s : State) (input output line : List ℕ) (t : State) (so_
       by_rest (b ∷ r) =
           ne_eqb (length (take 81 (b ∷ r))) 0 (λ z. omega arith) ∙ sym (ne_eqb (length (b ∷ r)) 0 (λ z. omega arith))
 
-  -- The end.
-  pub typed_end : (x : Stroke) → x ≡ ended k t line → Whole k s input (output ++ x.output) x.store
-  typed_end x e =
-      subst (λ (y : Stroke). Whole k s input (output ++ y.output) y.store) (sym e)
-      (cond_both (eqb (length line) 0) (record { line = line; output = []; store = t }) (finished (told k t line))
-      (λ (y : Stroke). Whole k s input (output ++ y.output) y.store)
-      (λ none. let l = ap (λ ls. (lined input).lines ++ ls) (cond-true (eqb (length (lined input).rest) 0) [] ((lined input).rest ∷ []) (sym same_empty ∙ none)) ∙ append-nil (lined input).lines in
+  -- The end of a last line without a line feed.
+  pub typed_last :
+      (l o : List ℕ) (z : State) → eqb (length line) 0 ≡ false →
+      record { line = l; output = o; store = z } ≡ finished (told k t line) → Whole k s input (output ++ o) z
+  typed_last l o z some e =
+      let ls = ap (λ ls. (lined input).lines ++ ls) (cond-false (eqb (length (lined input).rest) 0) [] ((lined input).rest ∷ []) (sym same_empty ∙ some)) in
       record {
-        whole_output = append-nil output ∙ so_far.output_so_far ∙ sym (ap (λ ls. (all_told k s ls).output) l);
-        store_after = so_far.store_so_far ∙ sym (ap (λ ls. (all_told k s ls).store) l);
-      })
-      (λ some. let l = ap (λ ls. (lined input).lines ++ ls) (cond-false (eqb (length (lined input).rest) 0) [] ((lined input).rest ∷ []) (sym same_empty ∙ some)) in
-      record {
-        whole_output = more_output ∙ sym (ap (λ ls. (all_told k s ls).output) l);
-        store_after = more_store ∙ sym (ap (λ ls. (all_told k s ls).store) l);
-      }))
+        whole_output = ap (λ (x : Stroke). output ++ x.output) e ∙ more_output ∙ sym (ap (λ ls. (all_told k s ls).output) ls);
+        store_after = ap (λ (x : Stroke). x.store) e ∙ more_store ∙ sym (ap (λ ls. (all_told k s ls).store) ls);
+      }
+
+-- each worked session gives the output that its entry says
+pub sessions_right : SessionsRight
+unfolding digits walk runs
+sessions_right = (refl, (refl, (refl, tt)))

@@ -1,16 +1,15 @@
 -- A buffer that keeps the first 81 bytes. Assumes nothing.
-use Rattle.std.proofs.Common.{◌≡◌, ℕ, ◌+◌, ◌<◌, ◌≤◌, List, [], ◌∷◌, ◌++◌, length, take, set, sym, ◌∙◌, ⊎_elim, arith}
-use Rattle.std.proofs.lemmas.List.{length-take-le, length_push, take_more_set, take_all, take-append-le, take_at}
+use Rattle.std.proofs.Common.{◌≡◌, ℕ, ◌<◌, List, [], ◌∷◌, ◌++◌, length, take, sym, ◌∙◌, ⊎_elim, arith}
+use Rattle.std.proofs.lemmas.List.{length-take-le, length_push, take_all, take-append-le, take_at}
 use Rattle.std.proofs.lemmas.Bool.{cases_lt, lt-leb}
+use Rattle.keyboard.specs.Laws.{Suffices}
 use Rattle.keyboard.specs.Lines.{meaning}
 
-pub kept_more : (bs : List ℕ) (n b : ℕ) → length bs ≡ 81 → n < 81 → take (n + 1) (set bs n b) ≡ take 81 (take n bs ++ b ∷ [])
-kept_more bs n b room free =
-    let long : length (take n bs ++ b ∷ []) ≤ 81 = omega (arith, length_push (take n bs) b, length-take-le n bs (omega arith)) in
-    take_more_set bs n b (omega arith) ∙ sym (take_all 81 _ long)
+pub kept_more : (bs : List ℕ) (b : ℕ) → length bs < 81 → take 81 (bs ++ b ∷ []) ≡ bs ++ b ∷ []
+kept_more bs b free = take_all 81 _ (omega (arith, length_push bs b))
 
-pub kept_full : (bs : List ℕ) (n b : ℕ) → length bs ≡ 81 → n ≤ 81 → 81 ≤ n → take n bs ≡ take 81 (take n bs ++ b ∷ [])
-kept_full bs n b room within full = sym (take_at (take n bs) (b ∷ []) 81 (omega (arith, length-take-le n bs (omega arith))))
+pub kept_full : (bs : List ℕ) (b : ℕ) → length bs ≡ 81 → take 81 (bs ++ b ∷ []) ≡ bs
+kept_full bs b full = take_at bs (b ∷ []) 81 full
 
 -- what is kept of a line, one byte on
 pub kept_next : (line : List ℕ) (b : ℕ) → take 81 (take 81 line ++ b ∷ []) ≡ take 81 (line ++ b ∷ [])
@@ -27,3 +26,6 @@ kept_means line =
     (λ short. rw (take_all 81 line (omega arith)))
     (λ long. rw (length-take-le 81 line long, lt-leb (length line) 80 long))
     (cases_lt (length line) 81)
+
+pub suffices : Suffices 81
+suffices = record { next = kept_next; means = kept_means }

@@ -1,6 +1,6 @@
 pub mod Keeping
 pub mod Naming
+pub mod Numbering
 pub mod Reading
-pub mod Spelling
 pub mod Splitting
 pub mod Telling

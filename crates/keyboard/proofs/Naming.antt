@@ -1,10 +1,8 @@
 -- What the first word of a line says of its form. Assumes nothing.
-use Rattle.std.proofs.Common.{◌≡◌, ℕ, suc, true, false, List, [], ◌∷◌, get_or, Some, None, Option, ap, ◌∙◌, ⊎_elim, arith, MatchOption}
-use Rattle.std.specs.Char.{is_ascii_digit}
+use Rattle.std.proofs.Common.{◌≡◌, ℕ, suc, false, List, [], ◌∷◌, Some, None, Option, ap, ◌∙◌, ⊎_elim, MatchOption}
 use Rattle.std.specs.Str.{bytes_eq}
 use Rattle.std.proofs.lemmas.Slice.Eq.{HasBytesAt, text_from_reads, bytes_eq-Decides}
 use Rattle.std.proofs.lemmas.Bool.{cases_Bool}
-use Rattle.std.proofs.lemmas.Bool.Decides.{nat_tests}
 use Rattle.keyboard.specs.declared.forms.Form.{Form}
 use Rattle.keyboard.specs.declared.forms.Form.TheVariants.{Make, Hold, Load, Link, Byte, Look, Drop, Tally}
 use Rattle.keyboard.specs.Lines.{form}
@@ -51,7 +49,3 @@ nameless w ws h =
 pub by_name : (r : Option Form) (all : List (List ℕ)) (w : List ℕ) (ws : List (List ℕ)) → all ≡ w ∷ ws → MatchOption r (Nameless w) (λ f. Names w f) → MatchOption r (form all ≡ None) (λ f. all ≡ name_of f ∷ ws)
 by_name None all w ws split h = rw split (nameless w ws h)
 by_name (Some f) all w ws split h = split ∙ ap (λ x. x ∷ ws) (named w f h)
-
--- no command word begins with a digit
-pub by_digit : (all : List (List ℕ)) (w : List ℕ) (ws : List (List ℕ)) → all ≡ w ∷ ws → is_ascii_digit (get_or w 0 0) ≡ true → form all ≡ None
-by_digit all w ws split digit = rw split (nameless w ws (grind (arith, nat_tests)))

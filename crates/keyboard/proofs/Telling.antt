@@ -1,5 +1,6 @@
 -- Replies that differ have answer lines that differ. Assumes nothing.
-use Rattle.std.proofs.Common.{◌≡◌, ℕ, ◌^◌, ◌<◌, List, ◌++◌, get_or, codes, decimal, ap, arith}
+use Rattle.std.proofs.Common.{◌≡◌, ℕ, ◌^◌, ◌<◌, List, ◌++◌, get_or, codes, decimal, refl, ap, arith}
+use Rattle.std.specs.Fmt.{digits}
 use Rattle.std.proofs.lemmas.Fmt.{decimal_injective, decimal_is_IsNumeral, decimal_nonempty}
 use Rattle.std.proofs.lemmas.Str.Parse.{digit_at}
 use Rattle.std.proofs.lemmas.List.{append_cancel_left, append_cancel_right, get_or_append_left}
@@ -8,6 +9,7 @@ use Rattle.model.specs.declared.calls.Reply.{Reply}
 use Rattle.model.specs.declared.calls.Reply.TheVariants.{Number, Nothing, Done, Refused}
 use Rattle.keyboard.specs.Answers.{line_feed}
 use Rattle.keyboard.specs.Laws.{Tells}
+use Rattle.keyboard.specs.Worked.{AnswersRight}
 
 same_number : (words : List ℕ) (m n : ℕ) → m < 2 ^ 64 → n < 2 ^ 64 → words ++ (decimal m ++ line_feed) ≡ words ++ (decimal n ++ line_feed) → m ≡ n
 same_number words m n fm fn e =
@@ -39,3 +41,8 @@ tells (Refused a) (Number n) fa fb e = omega (arith, ap (λ l. get_or l 0 0) e)
 tells (Refused a) Nothing fa fb e = omega (arith, ap (λ l. get_or l 0 0) e)
 tells (Refused a) Done fa fb e = omega (arith, ap (λ l. get_or l 0 0) e)
 tells (Refused a) (Refused b) fa fb e = same_number (codes "refused ") (number_of a) (number_of b) fa fb e
+
+-- each worked reply has the line of its entry
+pub answers_right : AnswersRight
+unfolding digits
+answers_right = (refl, (refl, (refl, (refl, (refl, (refl, (refl, tt)))))))

@@ -1,7 +1,7 @@
 // From a line to the call that it means.
 ghost use Rattle.std.specs.Prelude.{◌≡◌, ◌∷◌};
-ghost use Rattle.keyboard.specs.Lines.{alone as value_alone, byte_call as call_of_byte, one as one_number, two as two_numbers, three as three_numbers, form, meaning};
-ghost use Rattle.keyboard.specs.Splits.{left};
+ghost use Rattle.keyboard.specs.Lines.{alone as value_alone, byte_call as call_of_byte, form, meaning};
+ghost use Rattle.keyboard.specs.Splits.{left, numbers as numbers_of};
 ghost use Rattle.keyboard.specs.Names.{name_of};
 
 use crate::forms::Form;
@@ -18,40 +18,23 @@ fn alone<T: Copy>(value: T, mut words: Words<'_>) -> Option<T>
     }
 }
 
-// One number and no word more.
-fn one(mut words: Words<'_>) -> Option<usize>
-    ensures value { result ≡ one_number (left words.entry) }
+// N numbers and no word more.
+fn numbers<const N: usize>(mut words: Words<'_>) -> Option<[usize; N]>
+    ensures value { result ≡ numbers_of N (left words.entry) }
 {
-    let a = words.number()?;
-    alone(a, words)
-}
-
-// Two numbers and no word more.
-fn two(mut words: Words<'_>) -> Option<(usize, usize)>
-    ensures value { result ≡ two_numbers (left words.entry) }
-{
-    let a = words.number()?;
-    let b = one(words)?;
-    Some((a, b))
-}
-
-// Three numbers and no word more.
-fn three(mut words: Words<'_>) -> Option<(usize, usize, usize)>
-    ensures value { result ≡ three_numbers (left words.entry) }
-{
-    let a = words.number()?;
-    let (b, c) = two(words)?;
-    Some((a, b, c))
+    let mut found = [0; N];
+    for number in found.iter_mut() {
+        *number = words.number()?;
+    }
+    alone(found, words)
 }
 
 // A call that writes a byte, whose value is at most 255.
 fn byte_call(record: usize, byte: usize, value: usize) -> Option<Call>
     ensures value { result ≡ call_of_byte («record», byte, value) }
 {
-    if value > 255 {
-        return None;
-    }
-    Some(Call::Byte(record, byte, value as u8))
+    let value = u8::try_from(value).ok()?;
+    Some(Call::Byte(record, byte, value))
 }
 
 // The call of a form, from the words after its command word.
@@ -60,24 +43,30 @@ fn call(kind: Form, words: Words<'_>) -> Option<Call>
 {
     match kind {
         Form::Make => alone(Call::Make, words),
-        Form::Hold => Some(Call::Hold(one(words)?)),
+        Form::Hold => {
+            let [record] = numbers::<1>(words)?;
+            Some(Call::Hold(record))
+        }
         Form::Load => {
-            let (record, link) = two(words)?;
+            let [record, link] = numbers::<2>(words)?;
             Some(Call::Load(record, link))
         }
         Form::Link => {
-            let (record, link, target) = three(words)?;
+            let [record, link, target] = numbers::<3>(words)?;
             Some(Call::Link(record, link, target))
         }
         Form::Byte => {
-            let (record, byte, value) = three(words)?;
+            let [record, byte, value] = numbers::<3>(words)?;
             byte_call(record, byte, value)
         }
         Form::Look => {
-            let (record, byte) = two(words)?;
+            let [record, byte] = numbers::<2>(words)?;
             Some(Call::Look(record, byte))
         }
-        Form::Drop => Some(Call::Drop(one(words)?)),
+        Form::Drop => {
+            let [record] = numbers::<1>(words)?;
+            Some(Call::Drop(record))
+        }
         Form::Tally => alone(Call::Tally, words),
     }
 }

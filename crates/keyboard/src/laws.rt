@@ -3,35 +3,33 @@ ghost use Rattle.std.specs.Prelude.{◌≡◌, ◌+◌, length};
 ghost use Rattle.keyboard.specs.Laws.{DecimalsBelow, Suffices};
 ghost use Rattle.keyboard.specs.Worked.{lines, answers, LinesRight, AnswersRight};
 
-// What is proved by hand of them.
-fn theorems()
+// What is proved by hand of numerals.
+fn theorem()
     ensures decimals { DecimalsBelow 100000 }
-    ensures suffices { Suffices 81 }
-    ensures answers { AnswersRight }
 {}
 
 // The numerals are exactly the decimals of the numbers below this one.
 pub fn number_limit() -> usize
     ensures law { DecimalsBelow result }
 {
-    theorems();
+    theorem();
     100000
 }
 
 // It suffices to keep so many bytes of a line.
+#[tactic(auto, using(crate::proofs::Keeping::suffices))]
 pub fn kept_bytes() -> usize
     ensures law { Suffices result }
 {
-    theorems();
     81
 }
 
 // How many examples are worked: each line means what its entry says, and each reply has the line of its entry.
+#[tactic(auto, using(crate::proofs::Telling::answers_right))]
 pub fn worked_examples() -> usize
     ensures lines { LinesRight }
     ensures answers { AnswersRight }
     ensures count { result ≡ length lines + length answers }
 {
-    theorems();
     33
 }

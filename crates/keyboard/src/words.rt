@@ -1,9 +1,11 @@
 // The words of a line, split off one at a time.
 ghost use Rattle.std.specs.Prelude.{◌≡◌, [], ◌∷◌, IfSome, None, MatchOption, slice_index};
 ghost use Rattle.std.specs.Char.{is_ascii_digit};
+ghost use Rattle.std.specs.Iterator.{item_count};
+ghost use Rattle.std.specs.List.{position};
 ghost use Rattle.keyboard.specs.Lines.{words, form};
 ghost use Rattle.keyboard.specs.Names.{name_of};
-ghost use Rattle.keyboard.specs.Splits.{left, first_number, others, text_of, is_digits, words_of};
+ghost use Rattle.keyboard.specs.Splits.{is_space, left, first_number, others, text_of, is_digits, words_of, GivesWord};
 
 use crate::forms::Form;
 use crate::numbers::number;
@@ -29,9 +31,26 @@ impl<'a> Word<'a> {
 }
 
 // The words of a line that are still to come: those of `rest`, or none.
-#[derive(Clone, Copy)]
+#[derive(Drop)]
 pub(crate) struct Words<'a> {
     rest: Option<&'a [u8]>,
+}
+
+impl<'a> Iterator for Words<'a> {
+    type Item = Word<'a>;
+
+    // The word comes from the front, and is of the kind that its first byte says.
+    ghost next_gives = { GivesWord };
+
+    ghost remaining = { item_count left };
+
+    // Splits the first word off. None where there is no word left.
+    fn next(&mut self) -> Option<Word<'a>> {
+        let line = self.rest?;
+        let (first, rest) = split(line);
+        self.rest = rest;
+        Some(Word::of(first))
+    }
 }
 
 impl<'a> Words<'a> {
@@ -40,20 +59,6 @@ impl<'a> Words<'a> {
         ensures value { left result ≡ words line.now }
     {
         Words { rest: Some(line) }
-    }
-
-    // Splits the first word off. None where there is no word left.
-    pub(crate) fn next(&mut self) -> Option<Word<'a>>
-        ensures value { MatchOption result (left self.old ≡ []) (λ w. left self.old ≡ text_of w ∷ left self.new) }
-        ensures after { left self.new ≡ others (left self.old) }
-        ensures kind { IfSome result (λ w. is_digits w ≡ is_ascii_digit (slice_index (text_of w) 0)) }
-    {
-        let Some(line) = self.rest else {
-            return None;
-        };
-        let (first, rest) = split(line);
-        self.rest = rest;
-        Some(Word::of(first))
     }
 
     // The form whose command word comes next. None where the next word is the command word of no form.
@@ -79,13 +84,19 @@ impl<'a> Words<'a> {
 }
 
 // The first word of a line, and what follows the space after it; None where no space is there.
+#[tactic(auto, using(crate::proofs::Splitting::at_space, crate::proofs::Splitting::at_end, std::proofs::lemmas::List::take_rest))]
 fn split(line: &[u8]) -> (&[u8], Option<&[u8]>)
     ensures value { words line.now ≡ result.0.now ∷ words_of result.1 }
 {
-    for (i, b) in line.iter().enumerate() {
-        if *b == b' ' {
-            return (&line[0..i], Some(&line[i + 1..]));
-        }
+    match first_space(line) {
+        Some(end) => (&line[..end], Some(&line[end + 1..])),
+        None => (line, None),
     }
-    (line, None)
+}
+
+// Where the first space stands.
+fn first_space(line: &[u8]) -> Option<usize>
+    ensures value { result ≡ position is_space line.now }
+{
+    line.iter().position(|b| *b == b' ')
 }

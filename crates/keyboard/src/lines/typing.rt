@@ -1,8 +1,9 @@
 // What is done with a line that is being typed.
-ghost use Rattle.std.specs.Prelude.{◌≡◌, ◌<◌, [], ◌∷◌, ◌++◌, length, take, ◌==◌};
+ghost use Rattle.std.specs.Prelude.{◌≡◌, [], ◌∷◌, ◌++◌, length, take, ◌==◌};
 ghost use Rattle.keyboard.specs.Buffers.{text};
 
 use super::Line;
+use arrayvec::ArrayVec;
 
 impl Line {
     // No byte typed yet.
@@ -10,47 +11,38 @@ impl Line {
         ensures value { text result ≡ [] }
     {
         Line {
-            bytes: [0; 81],
-            len: 0,
+            kept: ArrayVec::new(),
         }
     }
 
     // One byte more. Past 81 it is not kept: the line is too long already.
+    #[tactic(auto, using(crate::proofs::Keeping::kept_more, crate::proofs::Keeping::kept_full))]
     pub fn push(&mut self, b: u8)
         ensures after { text self.new ≡ take 81 (text self.old ++ b ∷ []) }
     {
-        if self.len < 81 {
-            self.store(b);
+        if !self.kept.is_full() {
+            self.kept.push(b);
         }
-    }
-
-    // Writes a byte behind those that are kept.
-    fn store(&mut self, b: u8)
-        requires { self.old.len < 81 }
-        ensures after { text self.new ≡ take 81 (text self.old ++ b ∷ []) }
-    {
-        self.bytes[self.len] = b;
-        self.len += 1;
     }
 
     // Forgets what was typed, for the next line.
     pub fn clear(&mut self)
         ensures after { text self.new ≡ [] }
     {
-        self.len = 0;
+        self.kept.clear();
     }
 
     // Whether no byte was typed.
     pub fn is_empty(&self) -> bool
         ensures value { result ≡ (length (text self.now) == 0) }
     {
-        self.len == 0
+        self.kept.is_empty()
     }
 
     // The bytes that are kept, as `command` takes them.
     pub fn bytes(&self) -> &[u8]
         ensures value { result.now ≡ text self.now }
     {
-        &self.bytes[0..self.len]
+        self.kept.as_slice()
     }
 }
