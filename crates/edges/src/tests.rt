@@ -7,20 +7,20 @@ use model::calls::{Call, Reply};
 use model::heads::Head;
 use model::refusals::Refusal;
 use store::plays::play;
+use store::tables::Tables;
 
 // The replies to the calls on a new store of N pairs with W numbers in its work table.
 fn replies<const N: usize, const W: usize, const M: usize>(calls: &[Call; M]) -> [Reply; M]
     requires small { (N ≤ 4095) × (W ≤ 8190) }
 {
     let mut replies = [Reply::Done; M];
-    play(
-        &mut [Pair::blank(); N],
-        &mut [Head::free(0); N],
-        &mut [0u16; N],
-        &mut [0u32; W],
-        calls,
-        &mut replies,
-    );
+    let tables = Tables {
+        records: &mut [Pair::blank(); N],
+        heads: &mut [Head::free(0); N],
+        list: &mut [0u16; N],
+        work: &mut [0u32; W],
+    };
+    play(tables, calls, &mut replies);
     replies
 }
 

@@ -8,6 +8,7 @@ use model::calls::{Call, Reply};
 use model::heads::Head;
 use std::io;
 use store::plays::play;
+use store::tables::Tables;
 
 mod sessions;
 
@@ -31,14 +32,13 @@ fn session<K: Kind>(
     let mut list = [0u16; 200];
     let mut work = [0u32; 400];
     let mut replies = [Reply::Done; 36];
-    let _store = play(
-        &mut records[0..n],
-        &mut heads[0..n],
-        &mut list[0..n],
-        &mut work,
-        calls,
-        &mut replies,
-    );
+    let tables = Tables {
+        records: &mut records[..n],
+        heads: &mut heads[..n],
+        list: &mut list[..n],
+        work: &mut work,
+    };
+    let _store = play(tables, calls, &mut replies);
     println!(rt; "{title}")?;
     print_all(rt, calls, &replies)
 }

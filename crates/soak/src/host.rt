@@ -1,11 +1,8 @@
 // A host program with a store of its own, which counts what it does.
-ghost use Rattle.store.specs.View.{LawfulStore};
-
 use crate::dice::Dice;
 use crate::totals::Totals;
 use kinds::kind::Kind;
 use model::calls::{Call, Reply};
-use std::marker::Model;
 use store::table::Store;
 
 // The number that names no record: a link to it is an empty one, and a call on it is refused.
@@ -16,17 +13,6 @@ pub(crate) struct Host<'a, K: Kind> {
     store: Store<'a, K>,
     pub(crate) dice: Dice,
     pub(crate) totals: Totals,
-}
-
-// The store of every host is lawful. This is no ghost field, since such a field must be a fact with one proof at most, and a
-// lawful store has as many as there are ways along links by which its records can be come to. No contract speaks of what a
-// host holds, so its value is empty.
-impl<'a, K: Kind> Model for Host<'a, K> {
-    ghost Value = { Unit {0} };
-
-    ghost view = { λ _. tt };
-
-    ghost invariant = { λ h. LawfulStore K.Kind h.store };
 }
 
 // The byte of record `r` that has its mark.
@@ -41,9 +27,7 @@ fn mark(r: usize, round: usize) -> u8 {
 }
 
 impl<'a, K: Kind> Host<'a, K> {
-    pub(crate) fn new(store: Store<'a, K>, seed: u64) -> Host<'a, K>
-        requires lawful { LawfulStore K.Kind store }
-    {
+    pub(crate) fn new(store: Store<'a, K>, seed: u64) -> Host<'a, K> {
         Host {
             store,
             dice: Dice::new(seed),
@@ -88,7 +72,7 @@ impl<'a, K: Kind> Host<'a, K> {
     }
 
     // The totals, with what the store has in use at the end.
-    pub(crate) fn finish(mut self) -> Totals {
+    pub(crate) fn finish(&mut self) -> Totals {
         self.totals.in_use = self.store.tally();
         self.totals
     }

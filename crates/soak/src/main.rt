@@ -14,6 +14,7 @@ use kinds::pair::Pair;
 use model::heads::Head;
 use std::io;
 use store::table::Store;
+use store::tables::Tables;
 
 const RECORDS: usize = 240;
 
@@ -25,7 +26,12 @@ fn soak<K: Kind>(rt: &impl Print, records: &mut [K], seed: u64) -> io::Result<()
     let mut list = [0u16; RECORDS];
     let mut work = [0u32; 2 * RECORDS];
     let mut places = [0usize; RECORDS];
-    let store = Store::new(records, &mut heads, &mut list, &mut work);
+    let store = Store::new(Tables {
+        records,
+        heads: &mut heads,
+        list: &mut list,
+        work: &mut work,
+    });
     let mut host = Host::new(store, seed);
     for round in 0..ROUNDS {
         host.play_round(&mut places, round);

@@ -8,6 +8,7 @@ use model::calls::{Call, Reply};
 use model::heads::Head;
 use std::io;
 use store::plays::play;
+use store::tables::Tables;
 
 fn print_all(rt: &impl Print, calls: &[Call], replies: &[Reply]) -> io::Result<()> {
     for (call, reply) in calls.iter().zip(replies) {
@@ -59,14 +60,13 @@ fn session<K: Kind>(rt: &impl Print, records: &mut [K]) -> io::Result<()> {
     let mut heads = [Head::free(0); 3];
     let mut list = [0u16; 3];
     let mut work = [0u32; 6];
-    let _store = play(
+    let tables = Tables {
         records,
-        &mut heads,
-        &mut list,
-        &mut work,
-        &calls,
-        &mut replies,
-    );
+        heads: &mut heads,
+        list: &mut list,
+        work: &mut work,
+    };
+    let _store = play(tables, &calls, &mut replies);
     print_all(rt, &calls, &replies)
 }
 

@@ -6,16 +6,6 @@ use Rattle.collection.proofs.Serves.{gather_begun, gather_serves, Gatherings}
 use Rattle.collection.proofs.Turns.{turn_first, turn_inside, turn_ready, turn_next, turn_all, listed_long}
 use Rattle.collection.proofs.lists.gather.Goals as goal
 
-pub loop-i-init : goal.loop-i-init
-loop-i-init g c =
-    let k = g.S.Records.shape in
-    let all = c.listed-left.ensures in
-    let e = c.take_list.ensures in (
-      turn_first (gather_one k) (Gatherings k) c.listed-left.result _ _
-          (omega (arith, listed_long c.listed-left.result _ _ all.value all.table, ap length e.aside)),
-      (refl, e.lawful),
-    )
-
 pub candidate-next-requires : goal.candidate-next-requires
 candidate-next-requires g c =
     let k = g.S.Records.shape in

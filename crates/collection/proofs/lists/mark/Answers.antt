@@ -6,25 +6,6 @@ use Rattle.collection.proofs.Serves.{mark_begun, mark_serves}
 use Rattle.collection.proofs.Turns.{turn_first, turn_inside, turn_ready, turn_next, turn_all, listed_long, drop_later}
 use Rattle.collection.proofs.lists.mark.Goals as goal
 
-pub loop-i-init : goal.loop-i-init
-loop-i-init g c =
-    let k = g.S.Records.shape in
-    let S = g.S.Stacked in
-    let all = c.listed-n.ensures in
-    let e = c.take_list.ensures in (
-      turn_first (mark_one k) (MarkList k) c.listed-n.result _ _
-          (omega (arith, listed_long c.listed-n.result _ _ all.value all.table, ap length e.aside)),
-      (omega (arith, ap (λ z. length z.store.candidates) e.after), (refl, e.lawful)),
-    )
-
-pub candidate-r-requires : goal.candidate-r-requires
-candidate-r-requires g c =
-    let k = g.S.Records.shape in
-    record {
-      lawful = c.loop-i.invariant.1.1.1;
-      inside = omega (arith, turn_inside (mark_one k) (MarkList k) _ _ _ _ _ _ c.loop-i.invariant.0 c.loop-i-test.true);
-    }
-
 pub mark_one-requires : goal.mark_one-requires
 mark_one-requires g c =
     let k = g.S.Records.shape in

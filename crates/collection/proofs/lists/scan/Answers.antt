@@ -9,13 +9,6 @@ use Rattle.collection.proofs.Serves.{scan_begun, Scans}
 use Rattle.collection.proofs.Turns.{turn_first, turn_inside, turn_ready, turn_next, turn_all, listed_long}
 use Rattle.collection.proofs.lists.scan.Goals as goal
 
-pub loop-i-init : goal.loop-i-init
-loop-i-init g c =
-    let all = c.listed-listed.ensures in (
-      turn_first scan_one (Scans g.S.Records.shape) c.listed-listed.result _ _ (listed_long c.listed-listed.result _ _ all.value all.table),
-      (refl, c.requires.lawful),
-    )
-
 pub candidate-root-requires : goal.candidate-root-requires
 candidate-root-requires g c = record {
   lawful = c.loop-i.invariant.1.1;
