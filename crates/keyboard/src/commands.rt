@@ -18,7 +18,8 @@ fn alone<T: Copy>(value: T, mut words: Words<'_>) -> Option<T>
     }
 }
 
-// N numbers and no word more.
+// N numbers and no word more. A loop, since of a closure that takes from `words`, as `array::try_from_fn` wants, nothing would be
+// known.
 fn numbers<const N: usize>(mut words: Words<'_>) -> Option<[usize; N]>
     ensures value { result ≡ numbers_of N (left words.entry) }
 {

@@ -7,7 +7,7 @@ use model::refusals::Refusal;
 fn last_number(line: &[u8]) -> usize {
     match command(line) {
         Some(Call::Hold(record)) => record,
-        Some(Call::Byte(_, _, value)) => value as usize,
+        Some(Call::Byte(_, _, value)) => usize::from(value),
         _ => 1,
     }
 }

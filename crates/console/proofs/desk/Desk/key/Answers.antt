@@ -1,3 +1,4 @@
+use Rattle.std.proofs.Common.{rules}
 use Rattle.console.proofs.Sessions.{typed_line, typed_byte}
 use Rattle.console.proofs.desk.Desk.key.Goals as goal
 
@@ -5,9 +6,7 @@ pub returns-then-byte-eq10-clause-history : goal.returns-then-byte-eq10-clause-h
 returns-then-byte-eq10-clause-history g c d _ m = c.finish.ensures.history d m
 
 pub returns-then-byte-eq10-clause-session : goal.returns-then-byte-eq10-clause-session
-returns-then-byte-eq10-clause-session g c s input output so_far =
-    typed_line _ s input output _ _ so_far _ _ _ _ c.if-byte-eq10.true c.finish.ensures.answer
+returns-then-byte-eq10-clause-session g c s input output so_far = search (rules, typed_line)
 
 pub returns-clause-session : goal.returns-clause-session
-returns-clause-session g c s input output so_far =
-    typed_byte _ s input output _ _ so_far _ _ c.if-byte-eq10.false c.push.ensures.after
+returns-clause-session g c s input output so_far = search (rules, typed_byte)
