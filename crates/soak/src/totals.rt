@@ -29,7 +29,7 @@ impl Digest {
     }
 }
 
-#[derive(Default, Drop)]
+#[derive(Clone, Copy, Default)]
 pub(crate) struct Totals {
     calls: usize,
     // makes that were not refused

@@ -3,27 +3,10 @@ use Rattle.model.proofs.Entries.{walk_laws}
 use Rattle.walks.proofs.Loops.{at_top, end, first, follow_ready, followed, free, inside, leave_ready, low, named, onward, onward_end, turn_begun, turn_empty, turn_leave, advance, visit_ready, visit_small}
 use Rattle.walks.proofs.run.walk.Goals as goal
 
-pub begin-top-requires : goal.begin-top-requires
-begin-top-requires g c =
-    let f = first _ _ _ _ c.requires.keeps g.W.Walk.spare _ _ _ _ c.requires.lawful.1 c.links-p.ensures.bound c.requires.few c.requires.stack in
-    record {
-      lawful = (c.requires.lawful.0, record { rest = []; fits = c.requires.lawful.1 });
-      named = visit_small c.requires.keeps f;
-      few = c.requires.few;
-      stack = omega (arith, c.requires.stack);
-      free = free c.requires.keeps f;
-    }
-
 pub loop-top-init : goal.loop-top-init
 loop-top-init g c =
     let f = first _ _ _ _ c.requires.keeps g.W.Walk.spare _ _ _ _ c.requires.lawful.1 c.links-p.ensures.bound c.requires.few c.requires.stack in
     (onward (turn_begun c.requires.keeps f c.begin-top.ensures.begun).0, (c.begin-top.ensures.lawful, refl))
-
-pub entry-n-requires : goal.entry-n-requires
-entry-n-requires g c =
-    let a = c.loop-top.invariant.0 in
-    let up = c.loop-top-test.true in
-    record { lawful = c.loop-top.invariant.1.0; inside = omega (arith, inside a up, up) }
 
 pub leave-requires : goal.leave-requires
 leave-requires g c =
@@ -41,13 +24,6 @@ loop-top-preserved-then-i-p g c =
       (turn_leave c.requires.keeps c.loop-top.invariant.0 c.loop-top-test.true c.entry-n.ensures.value f c.leave.ensures.meaning c.leave.ensures.kept).0,
       (c.leave.ensures.lawful, c.leave.ensures.aside ∙ c.loop-top.invariant.1.1),
     )
-
-pub overflow_add-n : goal.overflow_add-n
-overflow_add-n g c =
-    let a = c.loop-top.invariant.0 in
-    let o = at_top c.requires.keeps a c.loop-top-test.true c.entry-n.ensures.value in
-    let h : c.entry-n.result < 2 ^ 32 = omega (arith, o.1, a.bounds.few) in
-    search rules
 
 pub put-requires : goal.put-requires
 put-requires g c =
