@@ -18,12 +18,10 @@ use walks::steps::Walk;
 
 // A listed record that is not purple leaves the list; a spent one is given up.
 fn strike<S: Records>(store: &mut S, r: usize)
-    requires lawful { S.Stacked.sound store.old }
     requires serving { Marks S.Records.shape (S.Stacked.progress store.old) r }
     ensures meaning { S.Stacked.progress store.new ≡ struck S.Records.shape (S.Stacked.progress store.old) r }
     ensures kept { S.Stacked.stack store.new ≡ S.Stacked.stack store.old }
     ensures aside { S.Stacked.table store.new ≡ S.Stacked.table store.old }
-    ensures lawful { S.Stacked.sound store.new }
 {
     let head = store.read_head(r);
     if head.colour.is_black() && head.count == 0 {
@@ -35,14 +33,12 @@ fn strike<S: Records>(store: &mut S, r: usize)
 
 // A purple record of the list is walked and stays on it; any other is struck.
 fn mark_one<S: Records>(store: &mut S, r: usize)
-    requires lawful { S.Stacked.sound store.old }
     requires serving { Marks S.Records.shape (S.Stacked.progress store.old) r }
     requires stack { length (S.Stacked.progress store.old).store.rows ≤ length (S.Stacked.stack store.old) }
     ensures meaning { S.Stacked.progress store.new ≡ marked_one S.Records.shape (S.Stacked.progress store.old) r }
     ensures wide { length (S.Stacked.stack store.new) ≡ length (S.Stacked.stack store.old) }
     ensures aside { drop (length (S.Stacked.progress store.old).store.candidates + 1) (S.Stacked.table store.new) ≡ drop (length (S.Stacked.progress store.old).store.candidates + 1) (S.Stacked.table store.old) }
     ensures short { length (S.Stacked.progress store.new).store.candidates ≤ length (S.Stacked.progress store.old).store.candidates + 1 }
-    ensures lawful { S.Stacked.sound store.new }
 {
     if store.read_head(r).colour.is_purple() {
         walk::<S, Mark>(store, r, 0);
@@ -54,13 +50,12 @@ fn mark_one<S: Records>(store: &mut S, r: usize)
 
 // Mark: what hangs on a candidate turns gray, and the counts keep what comes from outside the gray.
 pub fn mark<S: Records>(store: &mut S)
-    requires lawful { S.Stacked.sound store.old × Lawful S.Records.shape (S.Stacked.progress store.old).store }
+    requires lawful { Lawful S.Records.shape (S.Stacked.progress store.old).store }
     requires few { FewGiven (S.Stacked.progress store.old) }
     requires stack { 2 * length (S.Stacked.progress store.old).store.rows ≤ length (S.Stacked.stack store.old) }
     ensures meaning { S.Stacked.progress store.new ≡ marked S.Records.shape (S.Stacked.progress store.old) }
     ensures law { AfterMark S.Records.shape (S.Stacked.progress store.old) (S.Stacked.progress store.new) }
     ensures wide { length (S.Stacked.stack store.new) ≡ length (S.Stacked.stack store.old) }
-    ensures lawful { S.Stacked.sound store.new }
 {
     let n = store.listed();
     store.take_list();
@@ -72,13 +67,11 @@ pub fn mark<S: Records>(store: &mut S)
 
 // Scan: what is unreachable turns white, and the rest of the gray black again.
 pub fn scan<S: Records>(store: &mut S)
-    requires lawful { S.Stacked.sound store.old }
     requires marked { (g : Progress) × (Lawful S.Records.shape g.store × AfterMark S.Records.shape g (S.Stacked.progress store.old)) }
     requires stack { 2 * length (S.Stacked.progress store.old).store.rows ≤ length (S.Stacked.stack store.old) }
     ensures meaning { S.Stacked.progress store.new ≡ scanned (S.Stacked.progress store.old) }
     ensures law { (g : Progress) → Lawful S.Records.shape g.store → AfterMark S.Records.shape g (S.Stacked.progress store.old) → AfterScan S.Records.shape g (S.Stacked.progress store.new) }
     ensures wide { length (S.Stacked.stack store.new) ≡ length (S.Stacked.stack store.old) }
-    ensures lawful { S.Stacked.sound store.new }
 {
     let listed = store.listed();
     for i in 0..listed {
@@ -89,13 +82,11 @@ pub fn scan<S: Records>(store: &mut S)
 
 // A record is taken off the list and walked.
 fn gather_one<S: Records>(store: &mut S, r: usize)
-    requires lawful { S.Stacked.sound store.old }
     requires serving { Gathers S.Records.shape (S.Stacked.progress store.old) r }
     requires stack { length (S.Stacked.progress store.old).store.rows ≤ length (S.Stacked.stack store.old) }
     ensures meaning { S.Stacked.progress store.new ≡ gathered_one S.Records.shape (S.Stacked.progress store.old) r }
     ensures wide { length (S.Stacked.stack store.new) ≡ length (S.Stacked.stack store.old) }
     ensures aside { S.Stacked.table store.new ≡ S.Stacked.table store.old }
-    ensures lawful { S.Stacked.sound store.new }
 {
     alter_head(store, r, Head::unlisted);
     walk::<S, Gather>(store, r, 0);
@@ -103,13 +94,11 @@ fn gather_one<S: Records>(store: &mut S, r: usize)
 
 // Gather: what is white is given up, and the list is empty.
 pub fn gather<S: Records>(store: &mut S)
-    requires lawful { S.Stacked.sound store.old }
     requires scanned { (g : Progress) × (Lawful S.Records.shape g.store × (FewGiven g × AfterScan S.Records.shape g (S.Stacked.progress store.old))) }
     requires stack { 2 * length (S.Stacked.progress store.old).store.rows ≤ length (S.Stacked.stack store.old) }
     ensures meaning { S.Stacked.progress store.new ≡ gathered S.Records.shape (S.Stacked.progress store.old) }
     ensures law { (g : Progress) → Lawful S.Records.shape g.store → FewGiven g → AfterScan S.Records.shape g (S.Stacked.progress store.old) → AfterCollection S.Records.shape g (S.Stacked.progress store.new) }
     ensures wide { length (S.Stacked.stack store.new) ≡ length (S.Stacked.stack store.old) }
-    ensures lawful { S.Stacked.sound store.new }
 {
     let left = store.listed();
     store.take_list();
@@ -121,13 +110,12 @@ pub fn gather<S: Records>(store: &mut S)
 
 // A whole collection: exactly the reachable records stay in use.
 pub fn collect<S: Records>(store: &mut S)
-    requires lawful { S.Stacked.sound store.old × Lawful S.Records.shape (S.Stacked.progress store.old).store }
+    requires lawful { Lawful S.Records.shape (S.Stacked.progress store.old).store }
     requires few { FewGiven (S.Stacked.progress store.old) }
     requires stack { 2 * length (S.Stacked.progress store.old).store.rows ≤ length (S.Stacked.stack store.old) }
     ensures meaning { S.Stacked.progress store.new ≡ collected S.Records.shape (S.Stacked.progress store.old) }
     ensures law { AfterCollection S.Records.shape (S.Stacked.progress store.old) (S.Stacked.progress store.new) }
     ensures wide { length (S.Stacked.stack store.new) ≡ length (S.Stacked.stack store.old) }
-    ensures lawful { S.Stacked.sound store.new }
 {
     mark(store);
     scan(store);

@@ -17,7 +17,6 @@ use walks::stacked::Stacked;
 
 // Whether `r` is held, and `t` is held or 0.
 pub fn are_held<S: Fields>(store: &S, r: usize, t: usize) -> bool
-    requires lawful { S.Stacked.sound store.now }
     ensures value { result ≡ (is_held (state S.Stacked store.now) r && (t == 0 || is_held (state S.Stacked store.now) t)) }
 {
     is_held(store, r) && (t == 0 || is_held(store, t))

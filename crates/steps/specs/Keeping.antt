@@ -19,5 +19,4 @@ pub record Keeping (k : Shape) (width : ℕ) (s : State) (stack : List ℕ) : Ty
 
 -- a lawful store
 pub record LawfulStore {S : Type 0} (t : stacked.Ghosts S) (r : Ghosts S) (s : S) : Type 0 where
-  pub sound : t.sound s
   pub keeping : Keeping r.shape t.width (state t s) (t.stack s)

@@ -13,7 +13,6 @@ use walks::stacked::Stacked;
 pub trait Fields: Records {
     // How many records there are.
     fn size(&self) -> usize
-        requires lawful { Self.Stacked.sound self.now }
         ensures value { result ≡ length (Self.Stacked.progress self.now).store.rows };
 
     // How many links and bytes a record has.
@@ -23,53 +22,41 @@ pub trait Fields: Records {
 
     // Writes a link that the record has.
     fn write_link(&mut self, r: usize, l: usize, t: usize)
-        requires lawful { Self.Stacked.sound self.old }
         requires named { Within (Self.Stacked.progress self.old).store r }
         requires field { l < Self.Records.shape.links }
         requires small { t ≤ 4095 }
         ensures after { Self.Stacked.progress self.new ≡ moved (Self.Stacked.progress self.old) (with_row (Self.Stacked.progress self.old).store r (with_link (row (Self.Stacked.progress self.old).store r) l t)) }
-        ensures kept { Self.Stacked.stack self.new ≡ Self.Stacked.stack self.old }
-        ensures lawful { Self.Stacked.sound self.new };
+        ensures kept { Self.Stacked.stack self.new ≡ Self.Stacked.stack self.old };
 
     // Byte `b` of record `r`.
     fn read_byte(&self, r: usize, b: usize) -> u8
-        requires lawful { Self.Stacked.sound self.now }
         requires named { Within (Self.Stacked.progress self.now).store r }
         ensures value { result ≡ slice_index (row (Self.Stacked.progress self.now).store r).bytes b };
 
     // Writes a byte that the record has.
     fn put_byte(&mut self, r: usize, b: usize, v: u8)
-        requires lawful { Self.Stacked.sound self.old }
         requires named { Within (Self.Stacked.progress self.old).store r }
         requires field { b < Self.Records.shape.bytes }
         ensures after { Self.Stacked.progress self.new ≡ moved (Self.Stacked.progress self.old) (with_row (Self.Stacked.progress self.old).store r (with_byte (row (Self.Stacked.progress self.old).store r) b v)) }
-        ensures kept { Self.Stacked.stack self.new ≡ Self.Stacked.stack self.old }
-        ensures lawful { Self.Stacked.sound self.new };
+        ensures kept { Self.Stacked.stack self.new ≡ Self.Stacked.stack self.old };
 
     // The first free record; 0 where there is none.
     fn front(&self) -> usize
-        requires lawful { Self.Stacked.sound self.now }
         ensures value { result ≡ (Self.Stacked.progress self.now).store.front };
 
     fn set_front(&mut self, r: usize)
-        requires lawful { Self.Stacked.sound self.old }
         ensures after { Self.Stacked.progress self.new ≡ moved (Self.Stacked.progress self.old) (with_front (Self.Stacked.progress self.old).store r) }
-        ensures kept { Self.Stacked.stack self.new ≡ Self.Stacked.stack self.old }
-        ensures lawful { Self.Stacked.sound self.new };
+        ensures kept { Self.Stacked.stack self.new ≡ Self.Stacked.stack self.old };
 
     // How many records are in use.
     fn used(&self) -> usize
-        requires lawful { Self.Stacked.sound self.now }
         ensures value { result ≡ in_use (Self.Stacked.progress self.now).store };
 
     // How many records the call under way has given up, and to count them from 0 on.
     fn given(&self) -> usize
-        requires lawful { Self.Stacked.sound self.now }
         ensures value { result ≡ (Self.Stacked.progress self.now).given };
 
     fn start(&mut self)
-        requires lawful { Self.Stacked.sound self.old }
         ensures after { Self.Stacked.progress self.new ≡ started (Self.Stacked.progress self.old).store }
-        ensures kept { Self.Stacked.stack self.new ≡ Self.Stacked.stack self.old }
-        ensures lawful { Self.Stacked.sound self.new };
+        ensures kept { Self.Stacked.stack self.new ≡ Self.Stacked.stack self.old };
 }

@@ -31,13 +31,11 @@ pub fn take_front<S: Fields>(store: &mut S, r: usize)
 
 // Lowers record `t`, to which one reference is still counted that is gone; 0 names none.
 pub fn lower<S: Fields>(store: &mut S, t: usize)
-    requires lawful { S.Stacked.sound store.old }
     requires owing { Releasing S.Records.shape (S.Stacked.progress store.old) (to_follow t ∷ []) }
     requires few { FewGiven (S.Stacked.progress store.old) }
     requires stack { 2 * length (S.Stacked.progress store.old).store.rows ≤ length (S.Stacked.stack store.old) }
     ensures after { S.Stacked.progress store.new ≡ lower_of S.Records.shape (S.Stacked.progress store.old) t }
     ensures wide { length (S.Stacked.stack store.new) ≡ length (S.Stacked.stack store.old) }
-    ensures lawful { S.Stacked.sound store.new }
 {
     if t == 0 {
         return;
@@ -48,12 +46,10 @@ pub fn lower<S: Fields>(store: &mut S, t: usize)
 
 // Raises record `t`; 0 names none.
 pub fn raise<S: Fields>(store: &mut S, t: usize)
-    requires lawful { S.Stacked.sound store.old }
     requires within { t ≤ length (S.Stacked.progress store.old).store.rows }
     requires few { (head (S.Stacked.progress store.old).store t).count < 4294967295 }
     ensures after { S.Stacked.progress store.new ≡ moved (S.Stacked.progress store.old) (raised_at (S.Stacked.progress store.old).store t) }
     ensures kept { S.Stacked.stack store.new ≡ S.Stacked.stack store.old }
-    ensures lawful { S.Stacked.sound store.new }
 {
     if t == 0 {
         return;

@@ -12,7 +12,6 @@ use walks::stacked::Stacked;
 
 // Whether `r` is a record of the store, and held.
 pub fn is_held<S: Fields>(store: &S, r: usize) -> bool
-    requires lawful { S.Stacked.sound store.now }
     ensures value { result ≡ is_held (state S.Stacked store.now) r }
 {
     if r == 0 || r > store.size() {

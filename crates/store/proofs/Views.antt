@@ -36,7 +36,6 @@ lawful_store g s = record { room = roomy s.contents; rules = lawful_shown g.shap
 -- what the calls over any store ask for
 pub lawful_for : {K : Type 0} (g : Ghosts K) (s : Store K g) → Bounded g.shape → LawfulOf (stacked g) (records g) s.contents
 lawful_for g s b = record {
-  sound = roomy s.contents;
   keeping = record {
     rules = lawful_shown g.shape (view g s) s.lawful;
     bounded = b;

@@ -35,7 +35,6 @@ stacked g = record {
   progress = λ s. progress g s;
   stack = λ s. s.tables.work.now;
   table = λ s. s.tables.list.now;
-  sound = λ s. Roomy s;
   width = g.shape.links;
 }
 

@@ -12,8 +12,6 @@ impl<'a, K: Kind> Stacked for Contents<'a, K> {
 
     ghost table = { λ s. s.tables.list.now };
 
-    ghost sound = { λ s. Roomy s };
-
     ghost width = { K.Kind.shape.links };
 
     fn links() -> usize {

@@ -10,14 +10,13 @@ use crate::steps::Walk;
 
 // Visits record `t`, and puts it on the stack, which ends before `top`, if it is entered. Says where the stack ends then.
 fn begin<S: Stacked, W: Walk<S>>(store: &mut S, t: usize, top: usize) -> usize
-    requires lawful { S.Stacked.sound store.old × Ready W.Walk.fits (S.Stacked.progress store.old) (to_visit t) }
+    requires ready { Ready W.Walk.fits (S.Stacked.progress store.old) (to_visit t) }
     requires named { t ≤ 4095 }
     requires few { length (S.Stacked.progress store.old).store.rows ≤ 4095 }
     requires stack { top + W.Walk.spare (length (S.Stacked.progress store.old).store.rows) ≤ length (S.Stacked.stack store.old) }
     requires free { W.Walk.rule.enters (S.Stacked.progress store.old) t ≡ true → top < length (S.Stacked.stack store.old) }
     ensures begun { Begun W.Walk.rule t top (S.Stacked.progress store.old) (S.Stacked.stack store.old) (S.Stacked.progress store.new) (S.Stacked.stack store.new) result }
     ensures aside { W.Walk.apart (S.Stacked.table store.new) ≡ W.Walk.apart (S.Stacked.table store.old) }
-    ensures lawful { S.Stacked.sound store.new }
 {
     if !W::visit(store, t, top) {
         return top;
@@ -29,14 +28,14 @@ fn begin<S: Stacked, W: Walk<S>>(store: &mut S, t: usize, top: usize) -> usize
 // Walks depth first from `root`, over the links from link 0 upward. The stack's entries from `base` on are the records
 // entered and not left, the innermost last: each is one number, the record times 32 and its next link.
 pub fn walk<S: Stacked, W: Walk<S>>(store: &mut S, root: usize, base: usize)
-    requires lawful { S.Stacked.sound store.old × W.Walk.fits (S.Stacked.progress store.old) (to_visit root ∷ []) }
+    requires fits { W.Walk.fits (S.Stacked.progress store.old) (to_visit root ∷ []) }
     requires keeps { Keeps S.Stacked.width W.Walk.rule W.Walk.fits W.Walk.room }
     requires opens { Opens W.Walk.rule W.Walk.fits W.Walk.left }
     requires few { length (S.Stacked.progress store.old).store.rows ≤ 4095 }
     requires stack { base + (length (S.Stacked.progress store.old).store.rows + W.Walk.spare (length (S.Stacked.progress store.old).store.rows)) ≤ length (S.Stacked.stack store.old) }
     ensures meaning { S.Stacked.progress store.new ≡ full W.Walk.rule (S.Stacked.progress store.old) root }
     ensures laws { Laws W.Walk.rule (S.Stacked.progress store.old) root }
-    ensures lawful { S.Stacked.sound store.new × W.Walk.fits (S.Stacked.progress store.new) [] }
+    ensures fits { W.Walk.fits (S.Stacked.progress store.new) [] }
     ensures wide { length (S.Stacked.stack store.new) ≡ length (S.Stacked.stack store.old) }
     ensures below { take base (S.Stacked.stack store.new) ≡ take base (S.Stacked.stack store.old) }
     ensures aside { W.Walk.apart (S.Stacked.table store.new) ≡ W.Walk.apart (S.Stacked.table store.old) }

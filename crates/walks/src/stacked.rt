@@ -14,9 +14,6 @@ pub trait Stacked {
     // The table of the candidate list, past the list's end too; a store that keeps none says nothing.
     ghost table: { Self → List ℕ } = { λ _. [] };
 
-    // What every function here relies on and keeps.
-    ghost sound: { Self → Type 0 };
-
     // How many links a record has.
     ghost width: { ℕ };
 
@@ -26,25 +23,21 @@ pub trait Stacked {
 
     // Link `i` of record `r`.
     fn link(&self, r: usize, i: usize) -> usize
-        requires lawful { sound self.now }
         requires named { Within (progress self.now).store r }
         requires linked { i < width }
         ensures value { result ≡ slice_index (row (progress self.now).store r).links i };
 
     // Entry `at` of the table.
     fn entry(&self, at: usize) -> usize
-        requires lawful { sound self.now }
         requires inside { at < length (stack self.now) }
         ensures value { result ≡ slice_index (stack self.now) at };
 
     // Writes entry `at` of the table, which is no longer than a number can say.
     fn put(&mut self, at: usize, n: usize)
-        requires lawful { sound self.old }
         requires inside { at < length (stack self.old) }
         requires small { n < 2 ^ 32 }
         ensures after { stack self.new ≡ slice_set (stack self.old) at n }
         ensures short { length (stack self.new) < 2 ^ 64 }
         ensures same { progress self.new ≡ progress self.old }
-        ensures aside { table self.new ≡ table self.old }
-        ensures lawful { sound self.new };
+        ensures aside { table self.new ≡ table self.old };
 }

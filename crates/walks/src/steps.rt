@@ -26,30 +26,27 @@ pub trait Walk<S: Stacked> {
 
     // A link to `t` is followed.
     fn follow(store: &mut S, t: usize)
-        requires lawful { S.Stacked.sound store.old × Ready fits (S.Stacked.progress store.old) (to_follow t) }
+        requires ready { Ready fits (S.Stacked.progress store.old) (to_follow t) }
         requires named { t ≢ 0 }
         ensures meaning { S.Stacked.progress store.new ≡ rule.follow (S.Stacked.progress store.old) t }
         ensures kept { S.Stacked.stack store.new ≡ S.Stacked.stack store.old }
-        ensures aside { apart (S.Stacked.table store.new) ≡ apart (S.Stacked.table store.old) }
-        ensures lawful { S.Stacked.sound store.new };
+        ensures aside { apart (S.Stacked.table store.new) ≡ apart (S.Stacked.table store.old) };
 
     // Begins the walk of `t` itself, or passes it; a walk inside may use the stack from `base` on.
     fn visit(store: &mut S, t: usize, base: usize) -> bool
-        requires lawful { S.Stacked.sound store.old × Ready fits (S.Stacked.progress store.old) (to_visit t) }
+        requires ready { Ready fits (S.Stacked.progress store.old) (to_visit t) }
         requires few { length (S.Stacked.progress store.old).store.rows ≤ 4095 }
         requires stack { base + spare (length (S.Stacked.progress store.old).store.rows) ≤ length (S.Stacked.stack store.old) }
         ensures answer { result ≡ rule.enters (S.Stacked.progress store.old) t }
         ensures meaning { S.Stacked.progress store.new ≡ (if result then rule.enter (S.Stacked.progress store.old) t else rule.pass (S.Stacked.progress store.old) t) }
         ensures wide { length (S.Stacked.stack store.new) ≡ length (S.Stacked.stack store.old) }
         ensures below { take base (S.Stacked.stack store.new) ≡ take base (S.Stacked.stack store.old) }
-        ensures aside { apart (S.Stacked.table store.new) ≡ apart (S.Stacked.table store.old) }
-        ensures lawful { S.Stacked.sound store.new };
+        ensures aside { apart (S.Stacked.table store.new) ≡ apart (S.Stacked.table store.old) };
 
     // All links of `t` are done.
     fn leave(store: &mut S, t: usize)
-        requires lawful { S.Stacked.sound store.old × Ready fits (S.Stacked.progress store.old) (to_leave t) }
+        requires ready { Ready fits (S.Stacked.progress store.old) (to_leave t) }
         ensures meaning { S.Stacked.progress store.new ≡ rule.leave (S.Stacked.progress store.old) t }
         ensures kept { S.Stacked.stack store.new ≡ S.Stacked.stack store.old }
-        ensures aside { apart (S.Stacked.table store.new) ≡ apart (S.Stacked.table store.old) }
-        ensures lawful { S.Stacked.sound store.new };
+        ensures aside { apart (S.Stacked.table store.new) ≡ apart (S.Stacked.table store.old) };
 }

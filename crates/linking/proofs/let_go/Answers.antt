@@ -27,7 +27,6 @@ lower-requires g c =
     turned held_less _ _ r (λ a b p. p.1) c.alter_head.ensures.after ∙ ap (λ y. turn y r (held_less (head y.store r))) c.start.ensures.after in
     let owing = owing_drop k v r c.requires.lawful.keeping.rules (held_from_test v r c.requires.held) in
     record {
-      lawful = c.alter_head.ensures.lawful;
       owing = subst (λ y. Releasing k y (follow r ∷ [])) (sym begun) owing;
       few = subst FewGiven (sym begun) (few_start k (with_head v r (held_less (head v r))) (follow r ∷ []) owing);
       stack =
@@ -55,7 +54,6 @@ returns g c =
           ap (λ n. leaving (Number n) (state S c.lower.new.store)) c.given.ensures.value ∙ ap given_ups after
           ∙ sym (asked_yes v (λ _. drop_answer k v r) _ _ c.requires.held refl);
       lawful = record {
-        sound = c.lower.ensures.lawful;
         keeping =
             keeping_on k S.width v (state S c.lower.new.store) _ _ c.requires.lawful.keeping
             (subst (λ y. Lawful k y.store) (sym after) (lawful_lower k (started (with_head v r (held_less (head v r)))) r owing))

@@ -35,7 +35,6 @@ raise-requires g c =
     let first : Within v 1 = (omega arith, omega (arith, p.0.0)) in
     let e = c.start.ensures.after in
     record {
-      lawful = c.start.ensures.lawful;
       within =
           omega (arith, ap (λ y. length y.store.rows) e, ⊎_elim {C = t ≤ length v.rows} (λ z. omega (arith, z)) (λ h. h.0.1) p.1);
       few =
@@ -65,7 +64,6 @@ lower-requires g c =
     let p = target_from_test v r t c.requires.held in
     let owing = owing_relinked k v r l t c.requires.lawful.keeping.rules p.0 p.1 c.requires.field in
     record {
-      lawful = c.write_link.ensures.lawful;
       owing = subst (λ y. Releasing k y (follow c.link-old.result ∷ [])) (sym begun)
           (subst (λ u. Releasing k (started (relinked (raised_at v t) r l t)) (follow u ∷ [])) (sym old) owing);
       few = subst FewGiven (sym begun) (few_start k (relinked (raised_at v t) r l t) (follow (get_or (row v r).links l 0) ∷ []) owing);
@@ -104,7 +102,6 @@ returns g c =
           ap (λ n. leaving (Number n) (state S c.lower.new.store)) c.given.ensures.value ∙ ap given_ups after
           ∙ sym (asked_yes v (λ _. link_answer k v r l t) _ _ c.requires.held (lt-ltb l k.links c.requires.field));
       lawful = record {
-        sound = c.lower.ensures.lawful;
         keeping =
             keeping_on k S.width v (state S c.lower.new.store) _ _ c.requires.lawful.keeping
             (subst (λ y. Lawful k y.store) (sym after) (lawful_lower k (started (relinked (raised_at v t) r l t)) (get_or (row v r).links l 0) owing))

@@ -24,7 +24,6 @@ returns g c =
     record {
       after = answer;
       lawful = record {
-        sound = c.put_byte.ensures.lawful;
         keeping =
             keeping_answered k g.S.Stacked.width v z _ _ (Byte r b c.args.v) Done c.requires.lawful.keeping answer
             (ap (λ y. length y.store.rows) after ∙ length-set v.rows (r - 1) _) (ap length c.put_byte.ensures.kept);

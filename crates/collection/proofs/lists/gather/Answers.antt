@@ -1,16 +1,15 @@
-use Rattle.std.proofs.Common.{◌≡◌, ◌+◌, length, take, drop, fold, sym, refl, ap, ◌∙◌, subst, arith}
+use Rattle.std.proofs.Common.{◌≡◌, ◌+◌, length, take, drop, fold, sym, ap, ◌∙◌, subst, arith}
 use Rattle.model.specs.Collected.{AfterCollection}
 use Rattle.model.specs.Collection.{gather_one, gathered, list_taken}
 use Rattle.model.proofs.GatherLaws.{gather_turn, gather_law}
 use Rattle.collection.proofs.Serves.{gather_begun, gather_serves, Gatherings}
-use Rattle.collection.proofs.Turns.{turn_first, turn_inside, turn_ready, turn_next, turn_all, listed_long}
+use Rattle.collection.proofs.Turns.{turn_inside, turn_ready, turn_next, turn_all}
 use Rattle.collection.proofs.lists.gather.Goals as goal
 
 pub candidate-next-requires : goal.candidate-next-requires
 candidate-next-requires g c =
     let k = g.S.Records.shape in
     record {
-      lawful = c.loop-i.invariant.1.1;
       inside = omega (arith, turn_inside (gather_one k) (Gatherings k) _ _ _ _ _ _ c.loop-i.invariant.0 c.loop-i-test.true);
     }
 
@@ -25,9 +24,8 @@ gather_one-requires g c =
     let begun = gather_begun k start _ c.listed-left.result _ _ c.listed-left.ensures.table e.aside m.0 e.after m.1.0 m.1.1.0 m.1.1.1 in
     let L = turn_ready (gather_one k) (Gatherings k) _ _ _ _ y _ c.loop-i.invariant.0 c.loop-i-test.true _ c.candidate-next.ensures.value (m.0, start) begun in
     record {
-      lawful = c.loop-i.invariant.1.1;
       serving = gather_serves k m.0 start y c.candidate-next.result _ L;
-      stack = omega (arith, c.requires.stack, L.gathers.size, c.loop-i.invariant.1.0, ap length e.kept);
+      stack = omega (arith, c.requires.stack, L.gathers.size, c.loop-i.invariant.1, ap length e.kept);
     }
 
 pub loop-i-preserved : goal.loop-i-preserved
@@ -39,7 +37,7 @@ loop-i-preserved g c =
           (S.progress c.gather_one.new.store) (S.table c.gather_one.new.store) z.meaning
           (λ x L. gather_turn k x.0 x.1 _ _ _ L)
           (ap (drop (c.loop-i.i + 1)) z.aside),
-      (z.wide ∙ c.loop-i.invariant.1.0, z.lawful),
+      z.wide ∙ c.loop-i.invariant.1,
     )
 
 pub returns : goal.returns
@@ -58,6 +56,5 @@ returns g c =
     record {
       meaning = meaning;
       law = λ b law few a. subst (AfterCollection k b) (sym meaning) (gather_law k b start law few a);
-      wide = c.loop-i.invariant.1.0 ∙ ap length e.kept;
-      lawful = c.loop-i.invariant.1.1;
+      wide = c.loop-i.invariant.1 ∙ ap length e.kept;
     }

@@ -11,4 +11,4 @@ invariant-loop-i g l =
     let k = g.S.Records.shape in
     InTurn (gather_one k) (Gatherings k) l.left l.i (S.progress l.initial.store) (S.table l.initial.store) (S.progress l.store)
     (S.table l.store)
-    × ((length (S.stack l.store) ≡ length (S.stack l.initial.store)) × S.sound l.store)
+    × (length (S.stack l.store) ≡ length (S.stack l.initial.store))

@@ -19,7 +19,7 @@ walk-requires g c =
     turned unlisted y _ r (λ a b p. p.1) c.alter_head.ensures.after in
     let I = c.requires.serving in
     record {
-      lawful = (c.alter_head.ensures.lawful, subst (λ z. Gathering k z (visit r ∷ []) × FewGiven z) (sym e) (I.walks, I.few_given));
+      fits = subst (λ z. Gathering k z (visit r ∷ []) × FewGiven z) (sym e) (I.walks, I.few_given);
       keeps = subst (λ p. Keeps p (gathering k) (λ z Q. Gathering k z Q × FewGiven z) (open_room white)) (sym g.met.S.Records.narrow.0) (gathering_keeps k);
       opens = gathering_opens k;
       few = omega (arith, ap (λ z. length z.store.rows) e, I.walks.sized.few);

@@ -1,9 +1,9 @@
-use Rattle.std.proofs.Common.{◌≡◌, ◌+◌, length, take, fold, sym, refl, ap, ◌∙◌, subst, arith}
+use Rattle.std.proofs.Common.{◌≡◌, ◌+◌, length, take, fold, sym, ap, ◌∙◌, subst, arith}
 use Rattle.model.specs.Collected.{AfterMark}
 use Rattle.model.specs.Collection.{mark_one, marked, list_taken}
 use Rattle.model.proofs.MarkLaws.{MarkList, mark_turn, mark_law}
 use Rattle.collection.proofs.Serves.{mark_begun, mark_serves}
-use Rattle.collection.proofs.Turns.{turn_first, turn_inside, turn_ready, turn_next, turn_all, listed_long, drop_later}
+use Rattle.collection.proofs.Turns.{turn_ready, turn_next, turn_all, drop_later}
 use Rattle.collection.proofs.lists.mark.Goals as goal
 
 pub mark_one-requires : goal.mark_one-requires
@@ -13,12 +13,11 @@ mark_one-requires g c =
     let start = S.progress c.args.store.now in
     let y = S.progress c.loop-i.store in
     let e = c.take_list.ensures in
-    let begun = mark_begun k start _ c.listed-n.result _ _ c.listed-n.ensures.table e.aside e.after c.requires.lawful.1 in
+    let begun = mark_begun k start _ c.listed-n.result _ _ c.listed-n.ensures.table e.aside e.after c.requires.lawful in
     let M = turn_ready (mark_one k) (MarkList k) _ _ _ _ y _ c.loop-i.invariant.0 c.loop-i-test.true _ c.candidate-r.ensures.value start begun in
     record {
-      lawful = c.loop-i.invariant.1.1.1;
       serving = mark_serves k start y c.candidate-r.result _ M c.requires.few (omega (arith, c.loop-i.invariant.1.0, c.loop-i-test.true, c.listed-n.ensures.room));
-      stack = omega (arith, c.requires.stack, ap length M.rows_same, c.loop-i.invariant.1.1.0, ap length e.kept);
+      stack = omega (arith, c.requires.stack, ap length M.rows_same, c.loop-i.invariant.1.1, ap length e.kept);
     }
 
 pub loop-i-preserved : goal.loop-i-preserved
@@ -31,7 +30,7 @@ loop-i-preserved g c =
           (S.progress c.mark_one.new.store) (S.table c.mark_one.new.store) z.meaning
           (λ x M. mark_turn k x _ _ _ M)
           (drop_later _ (i + 1) _ _ (omega (arith, c.loop-i.invariant.1.0)) z.aside),
-      (omega (arith, z.short, c.loop-i.invariant.1.0), (z.wide ∙ c.loop-i.invariant.1.1.0, z.lawful)),
+      (omega (arith, z.short, c.loop-i.invariant.1.0), z.wide ∙ c.loop-i.invariant.1.1),
     )
 
 pub returns : goal.returns
@@ -49,7 +48,6 @@ returns g c =
     ∙ ap (fold (mark_one k) (list_taken start)) (sym c.listed-n.ensures.table) in
     record {
       meaning = meaning;
-      law = subst (AfterMark k start) (sym meaning) (mark_law k start c.requires.lawful.1);
-      wide = c.loop-i.invariant.1.1.0 ∙ ap length e.kept;
-      lawful = c.loop-i.invariant.1.1.1;
+      law = subst (AfterMark k start) (sym meaning) (mark_law k start c.requires.lawful);
+      wide = c.loop-i.invariant.1.1 ∙ ap length e.kept;
     }

@@ -11,4 +11,4 @@ invariant-loop-i g l =
     let k = g.S.Records.shape in
     InTurn (mark_one k) (MarkList k) l.n l.i (S.progress l.initial.store) (S.table l.initial.store) (S.progress l.store) (S.table l.store)
     × ((length (S.progress l.store).store.candidates ≤ l.i)
-    × ((length (S.stack l.store) ≡ length (S.stack l.initial.store)) × S.sound l.store))
+    × (length (S.stack l.store) ≡ length (S.stack l.initial.store)))

@@ -15,7 +15,7 @@ walk-requires g c =
     let k = g.S.Records.shape in
     let I = c.requires.serving.walks in
     record {
-      lawful = (c.requires.lawful, I);
+      fits = I;
       keeps = subst (λ p. Keeps p marking (Marking k) (open_room ungray)) (sym g.met.S.Records.narrow.0) (marking_keeps k);
       opens = marking_opens k;
       few = I.sized.few;
@@ -29,7 +29,6 @@ push-requires g c =
     let m = marking_steady k y c.args.r c.requires.serving.walks in
     let e = c.walk.ensures.meaning in
     record {
-      lawful = c.walk.ensures.lawful.0;
       small = omega (arith, c.requires.serving.inside, c.requires.serving.walks.sized.few);
       room =
           omega (
@@ -61,5 +60,4 @@ returns-then-is_purple g c =
           ∙ drop-set-lt (length y.store.candidates + 1) _ _ r (omega (arith, many))
           ∙ ap (drop (length y.store.candidates + 1)) c.walk.ensures.aside;
       short = omega (arith, ap (λ z. length z.store.candidates) c.push.ensures.after, length-append (g.S.Stacked.progress c.walk.new.store).store.candidates (r ∷ []), many);
-      lawful = c.push.ensures.lawful;
     }

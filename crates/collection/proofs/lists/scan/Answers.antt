@@ -6,12 +6,11 @@ use Rattle.model.proofs.Scans.{scanning_keeps, scanning_opens}
 use Rattle.model.proofs.ScanLaws.{scan_begins, scan_turn, scan_law}
 use Rattle.model.specs.Walk.{Keeps}
 use Rattle.collection.proofs.Serves.{scan_begun, Scans}
-use Rattle.collection.proofs.Turns.{turn_first, turn_inside, turn_ready, turn_next, turn_all, listed_long}
+use Rattle.collection.proofs.Turns.{turn_inside, turn_ready, turn_next, turn_all}
 use Rattle.collection.proofs.lists.scan.Goals as goal
 
 pub candidate-root-requires : goal.candidate-root-requires
 candidate-root-requires g c = record {
-  lawful = c.loop-i.invariant.1.1;
   inside = omega (arith, turn_inside scan_one (Scans g.S.Records.shape) _ _ _ _ _ _ c.loop-i.invariant.0 c.loop-i-test.true);
 }
 
@@ -26,11 +25,11 @@ walk-requires g c =
     let L = turn_ready scan_one (Scans k) _ _ _ _ y _ c.loop-i.invariant.0 c.loop-i-test.true _ c.candidate-root.ensures.value (m.0, start) begun in
     let I = scan_begins k m.0 start y c.candidate-root.result _ L in
     record {
-      lawful = (c.loop-i.invariant.1.1, I);
+      fits = I;
       keeps = subst (λ p. Keeps p scanning (Scanning k) (open_room gray)) (sym g.met.S.Records.narrow.0) (scanning_keeps k);
       opens = scanning_opens k;
       few = I.sized.few;
-      stack = omega (arith, c.requires.stack, ap length L.since.standing.rows, c.loop-i.invariant.1.0);
+      stack = omega (arith, c.requires.stack, ap length L.since.standing.rows, c.loop-i.invariant.1);
     }
 
 pub loop-i-preserved : goal.loop-i-preserved
@@ -42,7 +41,7 @@ loop-i-preserved g c =
           (S.progress c.walk.new.store) (S.table c.walk.new.store) z.meaning
           (λ x L. scan_turn k x.0 x.1 _ _ _ L)
           (ap (drop (c.loop-i.i + 1)) z.aside),
-      (z.wide ∙ c.loop-i.invariant.1.0, z.lawful.0),
+      z.wide ∙ c.loop-i.invariant.1,
     )
 
 pub returns : goal.returns
@@ -57,6 +56,5 @@ returns g c =
     record {
       meaning = meaning;
       law = λ b law m. subst (AfterScan k b) (sym meaning) (scan_law k b start law m);
-      wide = c.loop-i.invariant.1.0;
-      lawful = c.loop-i.invariant.1.1;
+      wide = c.loop-i.invariant.1;
     }

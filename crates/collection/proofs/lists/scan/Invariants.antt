@@ -10,4 +10,4 @@ invariant-loop-i g l =
     let S = g.S.Stacked in
     InTurn scan_one (Scans g.S.Records.shape) l.listed l.i
     (S.progress l.initial.store) (S.table l.initial.store) (S.progress l.store) (S.table l.store)
-    × ((length (S.stack l.store) ≡ length (S.stack l.initial.store)) × S.sound l.store)
+    × (length (S.stack l.store) ≡ length (S.stack l.initial.store))

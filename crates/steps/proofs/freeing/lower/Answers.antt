@@ -16,7 +16,7 @@ walk-requires g c =
     let f = (release_keeps_few k).follows y t [] c.if-t-eq0.false (c.requires.owing, c.requires.few) in
     let fits = subst (λ z. Releasing k z (visit t ∷ []) × FewGiven z) (sym e.meaning) f.fits in
     record {
-      lawful = (e.lawful, fits);
+      fits = fits;
       keeps = subst (λ p. Keeps p (releasing k) (λ z Q. Releasing k z Q × FewGiven z) counted_room) (sym g.met.S.Records.narrow.0) (release_keeps_few k);
       opens = release_opens k;
       few = fits.0.few;

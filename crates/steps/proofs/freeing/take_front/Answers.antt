@@ -15,13 +15,13 @@ pub read_head-next-requires : goal.read_head-next-requires
 read_head-next-requires g c =
     let v = state g.S.Stacked c.args.store.now in
     let f = front_free g.S.Records.shape v c.requires.lawful.keeping.rules (λ e. omega (arith, c.requires.front, e)) in
-    record { lawful = c.requires.lawful.sound; named = subst (Within v) (sym c.requires.front.1) f.within }
+    record { named = subst (Within v) (sym c.requires.front.1) f.within }
 
 pub write_head-requires : goal.write_head-requires
 write_head-requires g c =
     let v = state g.S.Stacked c.args.store.now in
     let f = front_free g.S.Records.shape v c.requires.lawful.keeping.rules (λ e. omega (arith, c.requires.front, e)) in
-    record { lawful = c.requires.lawful.sound; named = subst (Within v) (sym c.requires.front.1) f.within }
+    record { named = subst (Within v) (sym c.requires.front.1) f.within }
 
 pub returns : goal.returns
 returns g c =
@@ -41,7 +41,6 @@ returns g c =
     record {
       after = answer;
       lawful = record {
-        sound = c.set_front.ensures.lawful;
         keeping =
             keeping_answered k g.S.Stacked.width v z _ _ Make (Number r) c.requires.lawful.keeping answer (ap (λ y. length y.rows) after)
             (ap length (c.set_front.ensures.kept ∙ c.write_head.ensures.kept));

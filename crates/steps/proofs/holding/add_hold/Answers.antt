@@ -37,7 +37,6 @@ returns g c =
     record {
       answer = ap (leaving (Number c.args.answer)) after ∙ sym (hold_more_accepted v r c.args.answer few);
       lawful = record {
-        sound = c.write_head.ensures.lawful;
         keeping =
             keeping_on k g.S.Stacked.width v (state g.S.Stacked c.write_head.new.self) _ _ K
             (subst (Lawful k) (sym after) (lawful_held_more k v r K.rules c.requires.used few))

@@ -14,7 +14,7 @@ invariant-loop-top g l =
     Loop (course S.width W.rule W.fits W.room W.spare l.base work y)
     (settle W.rule (left (length y.store.rows) l.base l.initial.top) (todo y.store.rows work l.base l.initial.top) y)
     l.top (S.stack l.store) (S.progress l.store) ×
-    (S.sound l.store × (W.apart (S.table l.store) ≡ W.apart (S.table l.initial.store)))
+    (W.apart (S.table l.store) ≡ W.apart (S.table l.initial.store))
 
 abbrev pub decreases-loop-top : goal.decreases-loop-top
 decreases-loop-top g l =

@@ -5,10 +5,9 @@ pub give_up-requires : goal.give_up-requires
 give_up-requires g c =
     let y = g.S.Stacked.progress c.args.store.now in
     let k = g.S.Records.shape in
-    let ready = c.requires.lawful.1 in
+    let ready = c.requires.ready in
     let I = ready.fits.0 in
     record {
-      lawful = c.requires.lawful.0;
       named = gather_leave_within k y c.args.t ready.rest I;
       few = (gather_front_small k y _ I, gather_given_small k y c.args.t ready.rest I ready.fits.1);
     }

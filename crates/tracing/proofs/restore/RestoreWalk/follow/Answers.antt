@@ -6,7 +6,7 @@ use Rattle.tracing.proofs.restore.RestoreWalk.follow.Goals as goal
 pub alter_head-requires-clause-allowed : goal.alter_head-requires-clause-allowed
 alter_head-requires-clause-allowed g c =
     let y = g.S.Stacked.progress c.args.store.now in
-    let ready = c.requires.lawful.1 in
+    let ready = c.requires.ready in
     λ h e. omega (
       arith,
       ap (λ x. x.count) e,

@@ -14,11 +14,11 @@ pub walk-requires : goal.walk-requires
 walk-requires g c =
     let y = g.S.Stacked.progress c.args.store.now in
     let k = g.S.Records.shape in
-    let ready = c.requires.lawful.1 in
+    let ready = c.requires.ready in
     let tint : is_gray (at y c.args.t).colour ≡ true =
     sym (ap (λ h. is_gray h.colour) c.read_head-head.ensures.value) ∙ sym c.if-not-is_gray.ensures.value in
     record {
-      lawful = (c.requires.lawful.0, scan_restores k y c.args.t ready.rest ready.fits tint);
+      fits = scan_restores k y c.args.t ready.rest ready.fits tint;
       keeps = subst (λ w. Keeps w restoring (Restoring k) (open_room unblack)) (sym g.met.S.Records.narrow.0) (restoring_keeps k);
       opens = restoring_opens k;
       few = c.requires.few;
