@@ -1,8 +1,6 @@
 // The card box: keeps 200 score cards, and answers each line that is typed.
 #![tactic(auto)]
 
-ghost use Rattle.store.specs.View.{LawfulStore};
-
 use console::desk::Desk;
 use kinds::card::Card;
 use kinds::kind::Kind;
@@ -17,10 +15,7 @@ fn serve<K: Kind>(
     store: &mut Store<'_, K>,
     typed: &[u8],
     output: &mut impl Write,
-) -> io::Result<()>
-    requires lawful { LawfulStore K.Kind store.old }
-    ensures lawful { LawfulStore K.Kind store.new }
-{
+) -> io::Result<()> {
     for byte in typed {
         if let Some(answer) = desk.key(store, *byte) {
             output.write_all(answer.bytes())?;
@@ -34,9 +29,7 @@ fn run<K: Kind>(
     store: &mut Store<'_, K>,
     input: &mut impl Read,
     output: &mut impl Write,
-) -> io::Result<()>
-    requires lawful { LawfulStore K.Kind store.old }
-{
+) -> io::Result<()> {
     let mut desk = Desk::new();
     let mut piece = [0u8; 4096];
     for _ in 0..u64::MAX {

@@ -1,6 +1,5 @@
 // One round: a store is filled, its records are tied to each other, let go and collected, and nothing is left.
 ghost use Rattle.std.specs.Prelude.{◌<◌};
-ghost use Rattle.store.specs.View.{LawfulStore};
 
 use crate::dice::Dice;
 use crate::host::Host;
@@ -55,10 +54,7 @@ fn next_place(shape: Shape, i: usize, n: usize, drawn: usize) -> usize
 }
 
 // Makes a marked record for each place.
-fn fill<K: Kind>(host: &mut Host<'_, K>, made: &mut [usize], round: usize)
-    requires lawful { LawfulStore K.Kind host.old.store }
-    ensures lawful { LawfulStore K.Kind host.new.store }
-{
+fn fill<K: Kind>(host: &mut Host<'_, K>, made: &mut [usize], round: usize) {
     for i in 0..made.len() {
         made[i] = host.make_marked(round);
     }
@@ -76,10 +72,7 @@ fn shuffle(dice: &mut Dice, made: &mut [usize]) {
 }
 
 // Links each record by its first link as the shape says.
-fn tie<K: Kind>(host: &mut Host<'_, K>, made: &[usize], shape: Shape)
-    requires lawful { LawfulStore K.Kind host.old.store }
-    ensures lawful { LawfulStore K.Kind host.new.store }
-{
+fn tie<K: Kind>(host: &mut Host<'_, K>, made: &[usize], shape: Shape) {
     let n = made.len();
     for i in 0..n {
         let drawn = host.dice.roll(n);
@@ -89,10 +82,7 @@ fn tie<K: Kind>(host: &mut Host<'_, K>, made: &[usize], shape: Shape)
 }
 
 // Links some records by any of their links to any other; a first link that goes may part a ring.
-fn cross<K: Kind>(host: &mut Host<'_, K>, made: &[usize])
-    requires lawful { LawfulStore K.Kind host.old.store }
-    ensures lawful { LawfulStore K.Kind host.new.store }
-{
+fn cross<K: Kind>(host: &mut Host<'_, K>, made: &[usize]) {
     for r in made {
         if host.dice.once_in(3) {
             let l = host.dice.roll(K::numbers().links);
@@ -103,10 +93,7 @@ fn cross<K: Kind>(host: &mut Host<'_, K>, made: &[usize])
 }
 
 // Drops every record, with a collection now and then.
-fn let_go<K: Kind>(host: &mut Host<'_, K>, made: &[usize])
-    requires lawful { LawfulStore K.Kind host.old.store }
-    ensures lawful { LawfulStore K.Kind host.new.store }
-{
+fn let_go<K: Kind>(host: &mut Host<'_, K>, made: &[usize]) {
     for r in made {
         host.call(Call::Drop(*r));
         if host.dice.once_in(32) {
@@ -117,10 +104,7 @@ fn let_go<K: Kind>(host: &mut Host<'_, K>, made: &[usize])
 
 // Goes from a held record along links, mostly first ones, and says whether each record that it came to had its mark. One
 // hold goes along, and is dropped at the end.
-fn stroll<K: Kind>(host: &mut Host<'_, K>, from: usize, steps: usize, round: usize) -> bool
-    requires lawful { LawfulStore K.Kind host.old.store }
-    ensures lawful { LawfulStore K.Kind host.new.store }
-{
+fn stroll<K: Kind>(host: &mut Host<'_, K>, from: usize, steps: usize, round: usize) -> bool {
     host.call(Call::Hold(from));
     let mut at = from;
     let mut marked = host.is_marked(from, round);
@@ -141,10 +125,7 @@ fn stroll<K: Kind>(host: &mut Host<'_, K>, from: usize, steps: usize, round: usi
 }
 
 // Ties the records of a round in a drawn way.
-fn tie_all<K: Kind>(host: &mut Host<'_, K>, made: &[usize])
-    requires lawful { LawfulStore K.Kind host.old.store }
-    ensures lawful { LawfulStore K.Kind host.new.store }
-{
+fn tie_all<K: Kind>(host: &mut Host<'_, K>, made: &[usize]) {
     let shape = draw_shape(&mut host.dice);
     tie(host, made, shape);
     if host.dice.once_in(2) {
@@ -154,10 +135,7 @@ fn tie_all<K: Kind>(host: &mut Host<'_, K>, made: &[usize])
 
 // One record is held outside the rings and links into them, now and then to nothing. What hangs on it lives on, with its
 // marks, until it is dropped.
-pub(crate) fn play_round<K: Kind>(host: &mut Host<'_, K>, places: &mut [usize], round: usize)
-    requires lawful { LawfulStore K.Kind host.old.store }
-    ensures lawful { LawfulStore K.Kind host.new.store }
-{
+pub(crate) fn play_round<K: Kind>(host: &mut Host<'_, K>, places: &mut [usize], round: usize) {
     let size = host.dice.roll(places.len());
     let made = &mut places[0..size];
     let outside = host.make_marked(round);

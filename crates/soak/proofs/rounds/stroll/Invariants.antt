@@ -1,5 +1,0 @@
-use Rattle.store.specs.View.{LawfulStore}
-use Rattle.soak.proofs.rounds.stroll.Given as goal
-
-abbrev pub invariant-loop : goal.invariant-loop
-invariant-loop g l = LawfulStore g.K.Kind l.host.store
