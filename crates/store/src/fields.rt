@@ -1,4 +1,4 @@
-// The store as what the calls need.
+// What a store holds, as what the calls need.
 ghost use Rattle.store.specs.Meaning.{meaning};
 
 use crate::contents::Contents;
@@ -42,8 +42,7 @@ impl<'a, K: Kind> Fields for Contents<'a, K> {
     }
 
     fn used(&self) -> usize {
-        let heads = &*self.tables.heads;
-        count_used(heads, self.n)
+        count_used(self.tables.heads, self.n)
     }
 
     fn given(&self) -> usize {

@@ -1,4 +1,4 @@
-// The store as what release and collection need.
+// What a store holds, as what release and collection need.
 ghost use Rattle.store.specs.Meaning.{meaning};
 
 use crate::contents::Contents;

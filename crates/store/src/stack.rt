@@ -1,4 +1,4 @@
-// The store as what a walk needs: links, and the work table as its stack.
+// What a store holds, as what a walk needs: links, and the work table as its stack.
 ghost use Rattle.store.specs.Meaning.{progress as progress_of, Roomy};
 
 use crate::contents::Contents;

@@ -24,8 +24,7 @@ impl<'a, K: Kind> Tables<'a, K> {
     pub fn test(&self) -> Result<(), Refusal>
         ensures value { refusal_number result ≡ test_over self.now }
     {
-        let records = &*self.records;
-        check_tables(records, self.heads, self.list, self.work)
+        check_tables(self.records, self.heads, self.list, self.work)
     }
 
     // How many records a store over the tables has; none where they do not fit.
