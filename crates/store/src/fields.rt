@@ -1,6 +1,4 @@
 // What a store holds, as what the calls need.
-ghost use Rattle.store.specs.Meaning.{meaning};
-
 use crate::contents::Contents;
 use crate::counts::count_used;
 use kinds::kind::{Kind, Numbers};

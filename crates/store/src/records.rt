@@ -1,6 +1,4 @@
 // What a store holds, as what release and collection need.
-ghost use Rattle.store.specs.Meaning.{meaning};
-
 use crate::contents::Contents;
 use kinds::kind::Kind;
 use model::heads::Head;
