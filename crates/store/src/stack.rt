@@ -25,7 +25,7 @@ impl<'a, K: Kind> Stacked for Contents<'a, K> {
     }
 
     fn entry(&self, at: usize) -> usize {
-        // `as`, here and where numbers are stored: there is no `From<u32>` for a `usize`, and a number that is stored is known to fit
+        // `as`, since there is no `From<u32>` for a `usize`
         self.tables.work[at] as usize
     }
 

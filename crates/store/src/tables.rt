@@ -8,7 +8,7 @@ use kinds::kind::Kind;
 use model::heads::Head;
 use model::refusals::Refusal;
 
-// The four tables of a store.
+// The four tables of a store. There is no heap: the host lends each as it is.
 #[derive(Drop)]
 pub struct Tables<'a, K> {
     pub records: &'a mut [K],
