@@ -8,7 +8,7 @@ ghost use Rattle.model.specs.History.{GoesOn};
 ghost use Rattle.model.specs.declared.calls.Call.{Call as CallOf};
 ghost use Rattle.model.specs.State.{State};
 ghost use Rattle.steps.specs.Replies.{leaving, is_refusal};
-ghost use Rattle.store.specs.View.{view, LawfulStore, Same};
+ghost use Rattle.store.specs.View.{view, Same};
 
 use crate::desk::Desk;
 use keyboard::{Answer, Line, answer, command};
@@ -27,9 +27,7 @@ impl Desk {
 
     // Performs the call that the line means.
     fn reply<K: Kind>(&self, store: &mut Store<'_, K>) -> Reply
-        requires lawful { LawfulStore K.Kind store.old }
         ensures answer { leaving result (view K.Kind store.new) ≡ told K.Kind.shape (view K.Kind store.old) (kept self.now) }
-        ensures lawful { LawfulStore K.Kind store.new }
         ensures untouched { is_refusal result ≡ true → Same store.old store.new }
         ensures history { (c : CallOf) → meaning (kept self.now) ≡ Some c → GoesOn K.Kind.shape (view K.Kind store.old) c result (view K.Kind store.new) }
     {
@@ -41,9 +39,7 @@ impl Desk {
 
     // Answers the line, and begins the next.
     fn finish<K: Kind>(&mut self, store: &mut Store<'_, K>) -> Answer
-        requires lawful { LawfulStore K.Kind store.old }
         ensures answer { record { line = kept self.new; output = line_of result; store = view K.Kind store.new } ≡ finished (told K.Kind.shape (view K.Kind store.old) (kept self.old)) }
-        ensures lawful { LawfulStore K.Kind store.new }
         ensures untouched { is_refusal (told K.Kind.shape (view K.Kind store.old) (kept self.old)).reply ≡ true → Same store.old store.new }
         ensures history { (c : CallOf) → meaning (kept self.old) ≡ Some c → GoesOn K.Kind.shape (view K.Kind store.old) c (told K.Kind.shape (view K.Kind store.old) (kept self.old)).reply (view K.Kind store.new) }
     {
@@ -54,9 +50,7 @@ impl Desk {
 
     // One byte from the keyboard. A line feed ends the line, and the answer to it is handed out.
     pub fn key<K: Kind>(&mut self, store: &mut Store<'_, K>, byte: u8) -> Option<Answer>
-        requires lawful { LawfulStore K.Kind store.old }
         ensures answer { record { line = kept self.new; output = shown result; store = view K.Kind store.new } ≡ struck K.Kind.shape (view K.Kind store.old) (kept self.old) byte }
-        ensures lawful { LawfulStore K.Kind store.new }
         ensures untouched { is_refusal (told K.Kind.shape (view K.Kind store.old) (kept self.old)).reply ≡ true → Same store.old store.new }
         ensures history { (c : CallOf) → byte ≡ 10 → meaning (kept self.old) ≡ Some c → GoesOn K.Kind.shape (view K.Kind store.old) c (told K.Kind.shape (view K.Kind store.old) (kept self.old)).reply (view K.Kind store.new) }
         ensures session { (s : State) (input output : List ℕ) → Typed K.Kind.shape s input output (kept self.old) (view K.Kind store.old) → Typed K.Kind.shape s (input ++ byte ∷ []) (output ++ shown result) (kept self.new) (view K.Kind store.new) }
@@ -70,9 +64,7 @@ impl Desk {
 
     // The end of the input: a last line without a line feed is answered if it has a byte.
     pub fn end<K: Kind>(&mut self, store: &mut Store<'_, K>) -> Option<Answer>
-        requires lawful { LawfulStore K.Kind store.old }
         ensures answer { record { line = kept self.new; output = shown result; store = view K.Kind store.new } ≡ ended K.Kind.shape (view K.Kind store.old) (kept self.old) }
-        ensures lawful { LawfulStore K.Kind store.new }
         ensures session { (s : State) (input output : List ℕ) → Typed K.Kind.shape s input output (kept self.old) (view K.Kind store.old) → Whole K.Kind.shape s input (output ++ shown result) (view K.Kind store.new) }
     {
         if self.line.is_empty() {

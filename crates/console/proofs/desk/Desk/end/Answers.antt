@@ -14,6 +14,5 @@ returns g c =
     c.finish.ensures.answer ∙ sym (cond-false (eqb (length line) 0) _ _ (sym c.if-is_empty.ensures.value)) in
     record {
       answer = answer;
-      lawful = c.finish.ensures.lawful;
       session = λ s input output so_far. typed_end k s input output line t so_far _ answer;
     }

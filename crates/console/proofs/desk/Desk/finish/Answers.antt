@@ -15,7 +15,6 @@ returns g c =
       answer =
           ap (λ l. stroke l (line_of c.answer.result)) c.clear.ensures.after
           ∙ ap (stroke []) c.answer.ensures.value ∙ ap finished e.answer;
-      lawful = e.lawful;
       untouched = λ t. e.untouched (ap (λ a. is_refusal a.reply) e.answer ∙ t);
       history = λ d m.
           subst (λ r. GoesOn g.K.Kind.shape (view g.K.Kind c.args.store.now) d r z) (ap (λ a. a.reply) e.answer) (e.history d m);

@@ -15,7 +15,6 @@ returns-then-byte-eq10 g c =
     let answer = c.finish.ensures.answer ∙ sym (cond-true (eqb b 10) _ _ (eq-eqb b 10 c.if-byte-eq10.true)) in
     record {
       answer = answer;
-      lawful = c.finish.ensures.lawful;
       untouched = c.finish.ensures.untouched;
       history = λ d _ m. c.finish.ensures.history d m;
       session = λ s input output so_far. typed_more k s input output line t so_far b _ answer;
@@ -32,7 +31,6 @@ returns g c =
     ap added c.push.ensures.after ∙ sym (cond-false (eqb b 10) _ _ (ne_eqb b 10 c.if-byte-eq10.false)) in
     record {
       answer = answer;
-      lawful = c.requires.lawful;
       untouched = λ _. same_store c.args.store.now;
       history = λ d e _. absurd (c.if-byte-eq10.false e);
       session = λ s input output so_far. typed_more k s input output line t so_far b _ answer;
