@@ -1,20 +1,20 @@
--- Where it is known only that there is a proof that a store is lawful, a proof: what tests find in the tables.
+-- The type of a store says that there is a proof that it is lawful, and not which. Here is one. Most rules have one proof at
+-- most, and the chain is one list; what a record is come to by, from a held record or from a candidate, is sought step by step.
 use Rattle.std.proofs.Common.{◌≡◌, ℕ, zero, suc, ◌+◌, ◌-◌, ◌<◌, ◌≤◌, Bool, true, false, ◌&&◌, ◌||◌, leb, ◌⊎◌, inl, inr, List, [], ◌∷◌, length, get_or, sym, refl, ap, ◌∙◌, subst, arith}
 use Rattle.std.proofs.Math.Logic.{∥∥₁_elim, ∥∥₁_map}
-use Rattle.std.proofs.Math.Bridge.{le_prop}
-use mathlib.Core.Bool.{Bool-set}
 use Rattle.std.proofs.Props.{props}
 use Rattle.std.proofs.lemmas.Bool.{both_ways, cases_eq, cases_lt, leb-true, le-leb, and_parts, and_from, or_cases, or_left, or_right}
 use Rattle.std.proofs.lemmas.List.{get_or_past}
-use mathlib.Core.HLevel.{⊥_prop, Σ_prop_path}
+use mathlib.Core.HLevel.{Σ_prop_path}
 use Rattle.kinds.specs.Rows.{Row, Shape}
+use Rattle.model.specs.Headers.{is_black, is_purple}
 use Rattle.model.specs.Lawful.{Lawful, Used, Held, Links, From, Reachable, Spent, Candidate, Chain, naming, once}
 use Rattle.model.specs.Lawful.From.{here, along}
 use Rattle.model.specs.State.{State, Within, head, row, no_row}
 use Rattle.model.proofs.Colourings.{naming_some}
 use Rattle.model.proofs.Counting.{naming_has}
 use Rattle.model.specs.declared.heads.Colour.{Colour}
-use Rattle.model.specs.declared.heads.Colour.TheVariants.{Black, Gray, White, Purple}
+use Rattle.model.specs.declared.heads.Colour.TheVariants.{Black, Purple}
 
 -- the least number that passes a test
 abbrev Least : (ℕ → Bool) → Type 0
@@ -37,11 +37,27 @@ least_below f (suc k) = elim (least_below f k) [ inl l ↦ inl l | inr none ↦ 
 least : (f : ℕ → Bool) (n : ℕ) → f n ≡ true → Least f
 least f n e = elim (least_below f (suc n)) [ inl l ↦ l | inr none ↦ absurd (omega (arith, none n e)) ]
 
--- a fact for which a number can be tested
-by_number : {A : Type 0} (f : ℕ → Bool) → (A → (n : ℕ) × (f n ≡ true)) → ((n : ℕ) → f n ≡ true → A) → ∥ A ∥₁ → A
-by_number f found shown t =
-    let l = ∥∥₁_elim t (least_prop f) (λ a. least f (found a).0 (found a).1) in
-    shown l.0 l.1.0
+-- a fact that is sought number by number, until a test passes
+record Sought (A : Type 0) : Type 0 where
+  test : ℕ → Bool
+  found : A → (n : ℕ) × (test n ≡ true)
+  shown : (n : ℕ) → test n ≡ true → A
+
+-- where it is known only that there is a proof, the one that the least number gives
+the_least : {A : Type 0} → Sought A → ∥ A ∥₁ → A
+the_least a t =
+    let l = ∥∥₁_elim t (least_prop a.test) (λ x. least a.test (a.found x).0 (a.found x).1) in
+    a.shown l.0 l.1.0
+
+sought_either : {A B : Type 0} → Sought A → Sought B → Sought (A ⊎ B)
+sought_either a b = record {
+  test = λ n. a.test n || b.test n;
+  found = elim [
+    | inl x ↦ let i = a.found x in (i.0, or_left (a.test i.0) (b.test i.0) i.1)
+    | inr y ↦ let i = b.found y in (i.0, or_right (a.test i.0) (b.test i.0) i.1)
+  ];
+  shown = λ n e. elim (or_cases (a.test n) (b.test n) e) [ inl f ↦ inl (a.shown n f) | inr f ↦ inr (b.shown n f) ];
+}
 
 -- a test of a fact
 record Tested (A : Type 0) : Type 0 where
@@ -59,7 +75,10 @@ tested_both a b = record {
   shows = λ e. let w = and_parts a.test b.test e in (a.shows w.0, b.shows w.1);
 }
 
--- a test of some number below n
+sought_tested : {A : Type 0} → Tested A → Sought A
+sought_tested a = record { test = λ n. a.test; found = λ x. (0, a.passes x); shown = λ n e. a.shows e }
+
+-- whether some number below n passes
 some_below : (ℕ → Bool) → ℕ → Bool
 some_below f zero = false
 some_below f (suc n) = f n || some_below f n
@@ -78,11 +97,17 @@ unfolding some_below
 some_is f zero e = absurd (both_ways false refl e)
 some_is f (suc n) e = elim (or_cases (f n) (some_below f n) e) [ inl a ↦ (n, a) | inr b ↦ some_is f n b ]
 
-tested_colour : (c : Colour) → Tested (c ≡ Purple)
-tested_colour Black = record { test = false; passes = λ e. absurd (cc); shows = λ e. absurd (both_ways false refl e) }
-tested_colour Gray = record { test = false; passes = λ e. absurd (cc); shows = λ e. absurd (both_ways false refl e) }
-tested_colour White = record { test = false; passes = λ e. absurd (cc); shows = λ e. absurd (both_ways false refl e) }
-tested_colour Purple = record { test = true; passes = λ e. refl; shows = λ e. refl }
+purple_of : (c : Colour) → is_purple c ≡ true → c ≡ Purple
+purple_of c e = grind arith
+
+tested_purple : (c : Colour) → Tested (c ≡ Purple)
+tested_purple c = record { test = is_purple c; passes = λ e. ap is_purple e; shows = purple_of c }
+
+black_of : (c : Colour) → is_black c ≡ true → c ≡ Black
+black_of c e = grind arith
+
+tested_black : (c : Colour) → Tested (c ≡ Black)
+tested_black c = record { test = is_black c; passes = λ e. ap is_black e; shows = black_of c }
 
 tested_link : (ls : List ℕ) (t : ℕ) → Tested ((1 ≤ t) × ((i : ℕ) × (get_or ls i 0 ≡ t)))
 tested_link ls t =
@@ -93,7 +118,7 @@ tested_link ls t =
       shows = λ e. let w = order.shows e in (w.0, naming_some t ls w.1);
     }
 
--- what can be come to in so many steps, along links of numbers below n
+-- what can be come to in so many steps, along links from numbers below n
 module _ (P : ℕ → Type 0) (To : ℕ → ℕ → Type 0) (p : (r : ℕ) → Tested (P r)) (to : (r t : ℕ) → Tested (To r t)) (n : ℕ) where
   come : ℕ → ℕ → Bool
   come zero r = (p r).test
@@ -114,15 +139,20 @@ module _ (P : ℕ → Type 0) (To : ℕ → ℕ → Type 0) (p : (r : ℕ) → T
       let w = and_parts (come k q.0) (to q.0 r).test q.1 in
       along (come_shown k q.0 w.0) ((to q.0 r).shows w.1)
 
-module _ (k : Shape) (s : State) where
+  sought_from : ((q t : ℕ) → To q t → q < n) → (r : ℕ) → Sought (From P To r)
+  sought_from below r = record { test = λ k. come k r; found = come_found below; shown = λ k e. come_shown k r e }
+
+module _ (s : State) where
   held : (r : ℕ) → Tested (Held s r)
   held r = tested_both (tested_both (tested_order 1 r) (tested_order r (length s.rows))) (tested_order 1 (head s r).holds)
 
   candidate : (r : ℕ) → Tested (Candidate s r)
-  candidate r = tested_both (tested_order 1 (naming r s.candidates)) (tested_colour (head s r).colour)
+  candidate r = tested_both (tested_order 1 (naming r s.candidates)) (tested_purple (head s r).colour)
 
-  links : (r t : ℕ) → Tested (Links s r t)
-  links r t = tested_link (row s r).links t
+  spent : (r : ℕ) → Used s r → Tested (Spent s r)
+  spent r used =
+      let none = tested_order (head s r).count 0 in
+      record { test = none.test; passes = λ q. none.passes (omega (arith, q.1)); shows = λ e. (used, omega (arith, none.shows e)) }
 
   -- beyond the records there are no links
   links_below : (r t : ℕ) → Links s r t → r < length s.rows + 2
@@ -133,34 +163,16 @@ module _ (k : Shape) (s : State) where
         absurd (omega (arith, l.0, l.1.1, ap (λ (w : Row). get_or w.links l.1.0 0) none))
   ]
 
-  cover_shown : (r : ℕ) → Used s r → ∥ Reachable s r ⊎ (Spent s r ⊎ From (Candidate s) (Links s) r) ∥₁ → Reachable s r ⊎ (Spent s r ⊎ From (Candidate s) (Links s) r)
-  cover_shown r used =
-      let n = length s.rows + 2 in
-      let a = λ (i : ℕ). come (Held s) (Links s) held links n i r in
-      let b = leb (head s r).count 0 in
-      let c = λ (i : ℕ). come (Candidate s) (Links s) candidate links n i r in
-      by_number (λ i. a i || (b || c i))
-      (elim [
-        | inl f ↦ let i = come_found (Held s) (Links s) held links n links_below f in (i.0, or_left (a i.0) (b || c i.0) i.1)
-        | inr (inl q) ↦ (0, or_right (a 0) (b || c 0) (or_left b (c 0) (le-leb (head s r).count 0 (omega (arith, q.1)))))
-        | inr (inr f) ↦
-            let i = come_found (Candidate s) (Links s) candidate links n links_below f in
-            (i.0, or_right (a i.0) (b || c i.0) (or_right b (c i.0) i.1))
-      ])
-      (λ i e. elim (or_cases (a i) (b || c i) e) [
-        | inl f ↦ inl (come_shown (Held s) (Links s) held links n i r f)
-        | inr d ↦ inr (elim (or_cases b (c i) d) [
-          | inl z ↦ inl (used, omega (arith, leb-true (head s r).count 0 z))
-          | inr f ↦ inr (come_shown (Candidate s) (Links s) candidate links n i r f)
-        ])
-      ])
+  along_links : (P : ℕ → Type 0) → ((r : ℕ) → Tested (P r)) → (r : ℕ) → Sought (From P (Links s) r)
+  along_links P p = sought_from P (Links s) p (λ r t. tested_link (row s r).links t) (length s.rows + 2) links_below
+
+  covered : (r : ℕ) → Used s r → Sought (Reachable s r ⊎ (Spent s r ⊎ From (Candidate s) (Links s) r))
+  covered r used =
+      sought_either (along_links (Held s) held r) (sought_either (sought_tested (spent r used)) (along_links (Candidate s) candidate r))
 
 -- black, or purple and waiting
-coloured_shown : (c : Colour) (w : Bool) → ∥ (c ≡ Black) ⊎ ((c ≡ Purple) × (w ≡ true)) ∥₁ → (c ≡ Black) ⊎ ((c ≡ Purple) × (w ≡ true))
-coloured_shown Black w t = inl refl
-coloured_shown Gray w t = absurd (∥∥₁_elim {P = ⊥} t ⊥_prop (elim [ inl e ↦ cc | inr e ↦ let q = e.0 in cc ]))
-coloured_shown White w t = absurd (∥∥₁_elim {P = ⊥} t ⊥_prop (elim [ inl e ↦ cc | inr e ↦ let q = e.0 in cc ]))
-coloured_shown Purple w t = inr (refl, ∥∥₁_elim t (Bool-set w true) (elim [ inl e ↦ cc | inr e ↦ e.1 ]))
+coloured : (c : Colour) (w : Bool) → ∥ (c ≡ Black) ⊎ ((c ≡ Purple) × (w ≡ true)) ∥₁ → (c ≡ Black) ⊎ ((c ≡ Purple) × (w ≡ true))
+coloured c w t = the_least (sought_either (sought_tested (tested_black c)) (sought_tested (tested_both (tested_purple c) (record { test = w; passes = λ e. e; shows = λ e. e })))) t
 
 -- the free chain is one list
 chain_prop : (s : State) (r : ℕ) (xs : List ℕ) → IsProp (Chain s r xs)
@@ -189,11 +201,11 @@ module _ (k : Shape) (s : State) where
   lawful_shown t =
       let c = ∥∥₁_elim t chained_prop (λ l. (l.chain.0, (l.chain.1, l.chain.2))) in
       record {
-        few = ∥∥₁_elim t le_prop (λ l. l.few);
+        few = ∥∥₁_elim t (hlevel props) (λ l. l.few);
         heads_fit = ∥∥₁_elim t (hlevel props) (λ l. l.heads_fit);
         each = λ r w. record {
           settled = ∥∥₁_elim t (hlevel props) (λ l. (l.each r w).settled);
-          coloured = coloured_shown (head s r).colour (head s r).waiting (∥∥₁_map t (λ l. (l.each r w).coloured));
+          coloured = coloured (head s r).colour (head s r).waiting (∥∥₁_map t (λ l. (l.each r w).coloured));
           spent_waits = λ u z. ∥∥₁_elim t (hlevel props) (λ l. (l.each r w).spent_waits u z);
         };
         links_used = λ r u w l. ∥∥₁_elim t (hlevel props) (λ x. x.links_used r u w l);
@@ -201,5 +213,5 @@ module _ (k : Shape) (s : State) where
         listed_within = λ r w. ∥∥₁_elim t (hlevel props) (λ x. x.listed_within r w);
         chain = (c.0, c.1.0, c.1.1);
         counts = λ r w. ∥∥₁_elim t (hlevel props) (λ x. x.counts r w);
-        cover = λ r u. cover_shown k s r u (∥∥₁_map t (λ l. l.cover r u));
+        cover = λ r u. the_least (covered s r u) (∥∥₁_map t (λ l. l.cover r u));
       }

@@ -33,8 +33,7 @@ impl<'a, K: Kind> Contents<'a, K> {
         requires within { (1 ≤ r) × (r ≤ self.now.n) }
         ensures value { K.Kind.row result ≡ row (meaning K.Kind self.now) r }
     {
-        let records = &*self.tables.records;
-        records[r - 1]
+        self.tables.records[r - 1]
     }
 
     #[tactic(auto, using(crate::proofs::Views::set_front))]

@@ -8,9 +8,10 @@ use crate::tables::Tables;
 #[derive(Drop)]
 pub struct Contents<'a, K> {
     pub(crate) tables: Tables<'a, K>,
-    // N: how many records there are
+    // N: how many records there are. It stands beside the tables, since tables that do not fit stay whole, and N is 0
     pub(crate) n: usize,
-    // how many records are on the candidate list, the first entries of its table
+    // how many records are on the candidate list, the first entries of its table. It stands beside the table, which is lent
+    // and cannot grow
     pub(crate) listed: usize,
     // the first free record; 0 where there is none
     pub(crate) front: usize,

@@ -1,6 +1,4 @@
-// The store as what the calls need.
-ghost use Rattle.store.specs.Meaning.{meaning};
-
+// What a store holds, as what the calls need.
 use crate::contents::Contents;
 use crate::counts::count_used;
 use kinds::kind::{Kind, Numbers};
@@ -42,8 +40,7 @@ impl<'a, K: Kind> Fields for Contents<'a, K> {
     }
 
     fn used(&self) -> usize {
-        let heads = &*self.tables.heads;
-        count_used(heads, self.n)
+        count_used(self.tables.heads, self.n)
     }
 
     fn given(&self) -> usize {

@@ -32,7 +32,8 @@ pub fn check_tables<K: Kind>(
     Ok(())
 }
 
-// The same by number: 0 where a store can be made over the tables, and else the number of the refusal.
+// The same by number, as the rules of the box say it: 0 where a store can be made over the tables, and else the number of
+// the refusal.
 pub fn test_tables<K: Kind>(records: &[K], heads: &[Head], list: &[u16], work: &[u32]) -> u8
     ensures value { result ≡ table_test (length records.now) (length heads.now) (length list.now) (length work.now) }
 {

@@ -1,6 +1,5 @@
-// The store as what release and collection need.
+// What a store holds, as what release and collection need.
 ghost use Rattle.std.specs.Prelude.{refl};
-ghost use Rattle.store.specs.Meaning.{meaning};
 
 use crate::contents::Contents;
 use kinds::kind::Kind;

@@ -1,4 +1,4 @@
-// The store as what a walk needs: links, and the work table as its stack.
+// What a store holds, as what a walk needs: links, and the work table as its stack.
 ghost use Rattle.store.specs.Meaning.{progress as progress_of, Roomy};
 
 use crate::contents::Contents;
@@ -23,7 +23,7 @@ impl<'a, K: Kind> Stacked for Contents<'a, K> {
     }
 
     fn entry(&self, at: usize) -> usize {
-        // `as`, here and where numbers are stored: there is no `From<u32>` for a `usize`, and a number that is stored is known to fit
+        // `as`, since there is no `From<u32>` for a `usize`
         self.tables.work[at] as usize
     }
 

@@ -8,7 +8,7 @@ use kinds::kind::Kind;
 use model::heads::Head;
 use model::refusals::Refusal;
 
-// The four tables of a store.
+// The four tables of a store. There is no heap: the host lends each as it is.
 #[derive(Drop)]
 pub struct Tables<'a, K> {
     pub records: &'a mut [K],
@@ -24,8 +24,7 @@ impl<'a, K: Kind> Tables<'a, K> {
     pub fn test(&self) -> Result<(), Refusal>
         ensures value { refusal_number result ≡ test_over self.now }
     {
-        let records = &*self.records;
-        check_tables(records, self.heads, self.list, self.work)
+        check_tables(self.records, self.heads, self.list, self.work)
     }
 
     // How many records a store over the tables has; none where they do not fit.

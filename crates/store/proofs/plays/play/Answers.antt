@@ -19,10 +19,11 @@ loop-i-preserved g c =
     let called = take_more cs i Make (omega arith) in
     let answered = take_more_set rs i r (omega arith) in
     let pushed = events_push (take i cs) (take i rs) (get_or cs i Make) r (length-take-le i cs (omega arith) ∙ sym (length-take-le i rs (omega arith))) in
-    cc in (
-      λ n a. subst (λ es. After g.K.Kind.shape n es (view g.K.Kind c.perform.new.self)) (sym more) (c.perform.ensures.history n _ (c.loop-i.invariant.0 n a)).0,
-      grind (arith, common_steps),
-    )
+    cc in
+    record {
+      goes_on = λ n a. subst (λ es. After g.K.Kind.shape n es (view g.K.Kind c.perform.new.self)) (sym more) (c.perform.ensures.history n _ (c.loop-i.invariant.goes_on n a)).0;
+      rest = grind (arith, common_steps);
+    }
 
 pub returns-clause-answers : goal.returns-clause-answers
 returns-clause-answers g c =
@@ -31,7 +32,7 @@ returns-clause-answers g c =
     let made = c.new-store.ensures.store in
     let none = subst (After k size []) (sym made) (after_none k size (size_few c.args.tables)) in
     let all : c.loop-i.i ≡ min (length c.args.calls.now) (length c.loop-i.replies) = omega (arith, c.min-i-end.ensures) in
-    subst (λ es. After k size es (view g.K.Kind c.loop-i.store)) (events_all c.loop-i.i c.args.calls.now c.loop-i.replies all) (c.loop-i.invariant.0 size none)
+    subst (λ es. After k size es (view g.K.Kind c.loop-i.store)) (events_all c.loop-i.i c.args.calls.now c.loop-i.replies all) (c.loop-i.invariant.goes_on size none)
 
 pub returns-clause-history : goal.returns-clause-history
 returns-clause-history g c = (every_history g.K.Kind.shape (size_over c.args.tables) _ _ (returns-clause-answers g c)).1
