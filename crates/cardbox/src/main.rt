@@ -25,7 +25,7 @@ fn serve<K: Kind>(
     output.flush()
 }
 
-// Reads pieces of the input until it ends, and answers each line as it comes.
+// Reads pieces of the input until it ends, and answers each line as it comes. The count only bounds the reading.
 fn run<K: Kind>(
     store: &mut Store<'_, K>,
     input: &mut impl Read,

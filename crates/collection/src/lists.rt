@@ -1,4 +1,6 @@
-// Mark, scan and gather, each through the candidate list in order, and the collection.
+// Mark, scan and gather, each through the candidate list in order, and the collection. Each goes by the number of the entry:
+// the list stands in the store that its records alter, so no iterator can hold it meanwhile. The three loops share their proof
+// (`InTurn`) and differ in what is done at a record; a trait for that would be longer than they are.
 ghost use Rattle.std.specs.Prelude.{◌≡◌, ◌+◌, ◌*◌, ◌≤◌, length, drop};
 ghost use Rattle.collection.specs.Serving.{Marks, Gathers};
 ghost use Rattle.model.specs.Collected.{AfterMark, AfterScan, AfterCollection};

@@ -9,7 +9,8 @@ use model::refusals::Refusal;
 use store::plays::play;
 use store::tables::Tables;
 
-// The replies to the calls on a new store of N pairs with W numbers in its work table.
+// The replies to the calls on a new store of N pairs with W numbers in its work table. The tests of `worked` have the same: a
+// public function for tests alone would be no plainer.
 fn replies<const N: usize, const W: usize, const M: usize>(calls: &[Call; M]) -> [Reply; M]
     requires small { (N ≤ 4095) × (W ≤ 8190) }
 {

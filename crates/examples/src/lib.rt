@@ -4,16 +4,11 @@
 ghost use Rattle.std.specs.Prelude.{◌≡◌, length};
 ghost use Rattle.examples.specs.Worked.{examples, ExamplesRight};
 
-// What is proved by hand of them.
-fn theorem()
-    ensures right { ExamplesRight }
-{}
-
 // How many examples are worked: on cards and on pairs each gives its replies and leaves what it says.
+#[tactic(auto, using(crate::proofs::Computed::examples_right))]
 pub fn worked_examples() -> usize
     ensures right { ExamplesRight }
     ensures count { result ≡ length examples }
 {
-    theorem();
     9
 }

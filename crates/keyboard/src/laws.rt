@@ -3,16 +3,10 @@ ghost use Rattle.std.specs.Prelude.{◌≡◌, ◌+◌, length};
 ghost use Rattle.keyboard.specs.Laws.{DecimalsBelow, Suffices};
 ghost use Rattle.keyboard.specs.Worked.{lines, answers, LinesRight, AnswersRight};
 
-// What is proved by hand of numerals.
-fn theorem()
-    ensures decimals { DecimalsBelow 100000 }
-{}
-
 // The numerals are exactly the decimals of the numbers below this one.
 pub fn number_limit() -> usize
     ensures law { DecimalsBelow result }
 {
-    theorem();
     100000
 }
 

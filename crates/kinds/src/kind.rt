@@ -23,7 +23,8 @@ pub trait Kind: Copy {
 
     ghost row: { Self → Row };
 
-    // The constants, with the promise that they are the shape's: to code over every kind a constant alone says nothing.
+    // The constants, with the promise that they are the shape's: to code over every kind a constant alone says nothing. Each
+    // kind writes the body: one here would need a law that the constants are the shape's, which asks more of a kind.
     fn numbers() -> Numbers
         ensures links { result.links ≡ shape.links }
         ensures bytes { result.bytes ≡ shape.bytes }

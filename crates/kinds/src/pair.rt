@@ -56,6 +56,7 @@ impl Kind for Pair {
 
     #[tactic(auto, using(crate::proofs::Packing::low_twelve))]
     fn link(&self, i: usize) -> u16 {
+        // `as`, since no From goes from u32 to u16: the mask leaves 12 bits
         match i {
             0 => (self.word & 0xfff) as u16,
             1 => (self.word >> 12 & 0xfff) as u16,
@@ -76,6 +77,7 @@ impl Kind for Pair {
     }
 
     fn byte(&self, j: usize) -> u8 {
+        // `as`, since no From goes from u32 to u8: the shift leaves 8 bits
         if j == 0 { (self.word >> 24) as u8 } else { 0 }
     }
 

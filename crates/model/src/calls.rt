@@ -25,6 +25,8 @@ pub enum Call {
     Tally,
 }
 
+// What the box says, which has a line for each of the four. It is no `Result`: within the calls a refusal is an `Err`, and a
+// reply is made of that by `From` where the box speaks.
 #[derive(Clone, Copy, PartialEq, Eq, Debug)]
 pub enum Reply {
     Number(usize),

@@ -5,7 +5,8 @@ ghost use Rattle.model.specs.Headers.{header, made_header};
 use crate::heads::{Colour, Head};
 
 impl Head {
-    // The head of a record just made: in use, held once, referred to by that hold alone.
+    // The head of a record just made: in use, held once, referred to by that hold alone. Each field is written, since a struct
+    // with a ghost field takes no `..`.
     pub fn made() -> Head
         ensures value { header result ≡ made_header }
     {

@@ -12,6 +12,7 @@ use store::tables::Tables;
 
 mod sessions;
 
+// Each call with its reply. `worked` has the same loop: a library's function could promise nothing of what it prints.
 fn print_all(rt: &impl Print, calls: &[Call], replies: &[Reply]) -> io::Result<()> {
     for (call, reply) in calls.iter().zip(replies) {
         println!(rt; "{call} -> {reply}")?;

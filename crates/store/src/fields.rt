@@ -17,6 +17,7 @@ impl<'a, K: Kind> Fields for Contents<'a, K> {
 
     fn write_link(&mut self, r: usize, l: usize, t: usize) {
         let mut record = self.record(r);
+        // `as`: the number is known to fit, and `try_from` would add a branch that is never taken
         record.set_link(l, t as u16);
         self.set_record(r, record);
     }

@@ -23,6 +23,7 @@ pub(crate) fn chain_heads(heads: &mut [Head])
     let n = heads.len();
     for (i, head) in heads.iter_mut().enumerate() {
         let next = if i + 1 < n { i + 2 } else { 0 };
+        // `as`: no number here passes 4,095
         *head = Head::free(next as u16);
     }
 }

@@ -24,6 +24,7 @@ impl<'a, K: Kind> Records for Contents<'a, K> {
 
     fn give_up(&mut self, r: usize) {
         self.set_record(r, K::blank());
+        // `as`: the front is known to fit, as a call of this asks
         let front = self.front;
         self.set_head(r, Head::free(front as u16));
         self.front = r;
@@ -39,6 +40,7 @@ impl<'a, K: Kind> Records for Contents<'a, K> {
     }
 
     fn push(&mut self, r: usize) {
+        // `as`: no number here passes 4,095
         self.tables.list[self.listed] = r as u16;
         self.listed += 1;
     }

@@ -28,6 +28,7 @@ impl<'a, K: Kind> Stacked for Contents<'a, K> {
     }
 
     fn put(&mut self, at: usize, n: usize) {
+        // `as`: an entry is known to have 32 bits
         self.tables.work[at] = n as u32;
     }
 }

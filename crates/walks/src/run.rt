@@ -26,7 +26,8 @@ fn begin<S: Stacked, W: Walk<S>>(store: &mut S, t: usize, top: usize) -> usize
 }
 
 // Walks depth first from `root`, over the links from link 0 upward. The stack's entries from `base` on are the records
-// entered and not left, the innermost last: each is one number, the record times 32 and its next link.
+// entered and not left, the innermost last: each is one number, the record times 32 and its next link, since the host lends the
+// table as numbers of 32 bits and there is no heap for a stack of another form.
 pub fn walk<S: Stacked, W: Walk<S>>(store: &mut S, root: usize, base: usize)
     requires fits { W.Walk.fits (S.Stacked.progress store.old) (to_visit root ∷ []) }
     requires keeps { Keeps S.Stacked.width W.Walk.rule W.Walk.fits W.Walk.room }

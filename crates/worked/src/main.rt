@@ -10,6 +10,7 @@ use std::io;
 use store::plays::play;
 use store::tables::Tables;
 
+// Each call with its reply. `rings` has the same loop: a library's function could promise nothing of what it prints.
 fn print_all(rt: &impl Print, calls: &[Call], replies: &[Reply]) -> io::Result<()> {
     for (call, reply) in calls.iter().zip(replies) {
         println!(rt; "{call} -> {reply}")?;

@@ -10,7 +10,8 @@ use store::makes::test_tables;
 use store::plays::play;
 use store::tables::Tables;
 
-// The replies to the calls on a new store of N pairs with W numbers in its work table.
+// The replies to the calls on a new store of N pairs with W numbers in its work table. The tests of `edges` have the same: a
+// public function for tests alone would be no plainer.
 fn replies<const N: usize, const W: usize, const M: usize>(calls: &[Call; M]) -> [Reply; M]
     requires small { (N ≤ 4095) × (W ≤ 8190) }
 {
