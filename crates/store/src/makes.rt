@@ -3,7 +3,7 @@ ghost use Rattle.std.specs.Prelude.{◌≡◌, length};
 ghost use Rattle.model.specs.Calls.{new as new_state};
 ghost use Rattle.store.specs.Sizes.{size_over};
 ghost use Rattle.store.specs.Tables.{table_test, refusal_number};
-ghost use Rattle.store.specs.View.{view};
+ghost use Rattle.store.specs.View.{view, LawfulStore};
 
 use crate::contents::Contents;
 use crate::fills::{blank_records, chain_heads};
@@ -47,6 +47,7 @@ impl<'a, K: Kind> Store<'a, K> {
     // A store of free records over tables that fit; over others nothing is written, and the store has no record.
     pub fn new(tables: Tables<'a, K>) -> Store<'a, K>
         ensures store { view K.Kind result ≡ new_state K.Kind.shape (size_over tables.entry) }
+        ensures lawful { LawfulStore K.Kind result }
         ensures untouched { size_over tables.entry ≡ 0 → (result.contents.tables.records.now ≡ tables.entry.records.now) × (result.contents.tables.heads.now ≡ tables.entry.heads.now) }
         ensures others { (result.contents.tables.list.now ≡ tables.entry.list.now) × (result.contents.tables.work.now ≡ tables.entry.work.now) }
     {
