@@ -1,5 +1,8 @@
 // The steps of a release: what is lowered, and what is given back when a count comes to 0.
 ghost use Rattle.std.specs.Prelude.{◌≤◌, ◌<◌, false, [], ◌≡◌, length};
+ghost use Rattle.model.proofs.Unharmed.{release_keeps_few};
+ghost use Rattle.model.proofs.Opening.{release_opens};
+ghost use Rattle.reclaim.specs.Widths.{keeps_over};
 ghost use Rattle.model.specs.Release.{suspect as suspect_of, released as released_of, releasing};
 ghost use Rattle.model.specs.Releasing.{Releasing, FewGiven, counted_room, counted_open};
 ghost use Rattle.model.specs.State.{head, Within};
@@ -72,4 +75,8 @@ impl<S: Records> Walk<S> for Release {
     fn leave(store: &mut S, t: usize) {
         finish(store, t);
     }
+
+    ghost keeps = { keeps_over S.Records.shape S.narrow (release_keeps_few S.Records.shape) };
+
+    ghost opens = { release_opens S.Records.shape };
 }

@@ -1,4 +1,6 @@
 // Gather: a white record that no longer waits is given up, once what it links to is gathered.
+ghost use Rattle.model.proofs.Gathers.{gathering_keeps, gathering_opens};
+ghost use Rattle.reclaim.specs.Widths.{keeps_over};
 ghost use Rattle.model.specs.Collection.{gathering};
 ghost use Rattle.model.specs.Colouring.{Gathering, white, open_room, open_once};
 ghost use Rattle.model.specs.Releasing.{FewGiven};
@@ -37,4 +39,8 @@ impl<S: Records> Walk<S> for Gather {
     fn leave(store: &mut S, t: usize) {
         store.give_up(t);
     }
+
+    ghost keeps = { keeps_over S.Records.shape S.narrow (gathering_keeps S.Records.shape) };
+
+    ghost opens = { gathering_opens S.Records.shape };
 }

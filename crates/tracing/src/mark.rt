@@ -1,4 +1,6 @@
 // Mark: what hangs on a candidate turns gray, and each link of a gray record is taken from the count of its target.
+ghost use Rattle.model.proofs.Marks.{marking_keeps, marking_opens};
+ghost use Rattle.reclaim.specs.Widths.{keeps_over};
 ghost use Rattle.model.specs.Collection.{marking};
 ghost use Rattle.model.specs.Colouring.{Marking, ungray, open_room, open_once};
 
@@ -31,4 +33,8 @@ impl<S: Records> Walk<S> for Mark {
     }
 
     fn leave(_store: &mut S, _t: usize) {}
+
+    ghost keeps = { keeps_over S.Records.shape S.narrow (marking_keeps S.Records.shape) };
+
+    ghost opens = { marking_opens S.Records.shape };
 }

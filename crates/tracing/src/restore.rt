@@ -1,4 +1,6 @@
 // Restore: what hangs on a record that is alive turns black, and its links are counted again.
+ghost use Rattle.model.proofs.Restores.{restoring_keeps, restoring_opens};
+ghost use Rattle.reclaim.specs.Widths.{keeps_over};
 ghost use Rattle.model.specs.Collection.{restoring};
 ghost use Rattle.model.specs.Colouring.{Restoring, unblack, open_room, open_once};
 
@@ -31,4 +33,8 @@ impl<S: Records> Walk<S> for Restore {
     }
 
     fn leave(_store: &mut S, _t: usize) {}
+
+    ghost keeps = { keeps_over S.Records.shape S.narrow (restoring_keeps S.Records.shape) };
+
+    ghost opens = { restoring_opens S.Records.shape };
 }

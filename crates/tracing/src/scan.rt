@@ -1,4 +1,6 @@
 // Scan: a gray record to which a count is left is alive, and restored; one with none turns white.
+ghost use Rattle.model.proofs.Scans.{scanning_keeps, scanning_opens};
+ghost use Rattle.reclaim.specs.Widths.{keeps_over};
 ghost use Rattle.model.specs.Collection.{scanning};
 ghost use Rattle.model.specs.Colouring.{Scanning, gray, open_room, open_once};
 
@@ -41,4 +43,8 @@ impl<S: Records> Walk<S> for Scan {
     }
 
     fn leave(_store: &mut S, _t: usize) {}
+
+    ghost keeps = { keeps_over S.Records.shape S.narrow (scanning_keeps S.Records.shape) };
+
+    ghost opens = { scanning_opens S.Records.shape };
 }

@@ -30,8 +30,6 @@ fn begin<S: Stacked, W: Walk<S>>(store: &mut S, t: usize, top: usize) -> usize
 // table as numbers of 32 bits and there is no heap for a stack of another form.
 pub fn walk<S: Stacked, W: Walk<S>>(store: &mut S, root: usize, base: usize)
     requires fits { W.Walk.fits (S.Stacked.progress store.old) (to_visit root ∷ []) }
-    requires keeps { Keeps S.Stacked.width W.Walk.rule W.Walk.fits W.Walk.room }
-    requires opens { Opens W.Walk.rule W.Walk.fits W.Walk.left }
     requires few { length (S.Stacked.progress store.old).store.rows ≤ 4095 }
     requires stack { base + (length (S.Stacked.progress store.old).store.rows + W.Walk.spare (length (S.Stacked.progress store.old).store.rows)) ≤ length (S.Stacked.stack store.old) }
     ensures meaning { S.Stacked.progress store.new ≡ full W.Walk.rule (S.Stacked.progress store.old) root }

@@ -1,6 +1,7 @@
 // What one walk does at each record.
 ghost use Rattle.std.specs.Prelude.{◌≡◌, ℕ, ◌+◌, ◌≤◌, ◌≢◌, List, [], length, take, if◌then◌else◌};
-ghost use Rattle.model.specs.Walk.{Progress, Rule, Task, Ready};
+ghost use Rattle.model.specs.Entering.{Opens};
+ghost use Rattle.model.specs.Walk.{Progress, Rule, Task, Ready, Keeps};
 ghost use Rattle.model.specs.Walk.Task.{follow as to_follow, visit as to_visit, leave as to_leave};
 
 use crate::stacked::Stacked;
@@ -49,4 +50,10 @@ pub trait Walk<S: Stacked> {
         ensures meaning { S.Stacked.progress store.new ≡ rule.leave (S.Stacked.progress store.old) t }
         ensures kept { S.Stacked.stack store.new ≡ S.Stacked.stack store.old }
         ensures aside { apart (S.Stacked.table store.new) ≡ apart (S.Stacked.table store.old) };
+
+    // Each step keeps what the steps rely on, and that bounds the records still to be entered.
+    ghost keeps: { Keeps S.Stacked.width rule fits room };
+
+    // No record is entered twice.
+    ghost opens: { Opens rule fits left };
 }

@@ -1,12 +1,9 @@
 use Rattle.std.proofs.Common.{◌≡◌, [], ◌∷◌, length, sym, ap, subst, arith}
 use Rattle.model.specs.Headers.{unlisted}
-use Rattle.model.specs.Collection.{gathering}
-use Rattle.model.specs.Colouring.{Gathering, white, open_room}
+use Rattle.model.specs.Colouring.{Gathering}
 use Rattle.model.specs.Release.{at, turn}
 use Rattle.model.specs.Releasing.{FewGiven}
-use Rattle.model.specs.Walk.{Keeps}
 use Rattle.model.specs.Walk.Task.{visit}
-use Rattle.model.proofs.Gathers.{gathering_keeps, gathering_opens}
 use Rattle.reclaim.proofs.Turned.{turned}
 use Rattle.collection.proofs.lists.gather_one.Goals as goal
 
@@ -20,8 +17,6 @@ walk-requires g c =
     let I = c.requires.serving in
     record {
       fits = subst (λ z. Gathering k z (visit r ∷ []) × FewGiven z) (sym e) (I.walks, I.few_given);
-      keeps = subst (λ p. Keeps p (gathering k) (λ z Q. Gathering k z Q × FewGiven z) (open_room white)) (sym g.met.S.Records.narrow.0) (gathering_keeps k);
-      opens = gathering_opens k;
       few = omega (arith, ap (λ z. length z.store.rows) e, I.walks.sized.few);
       stack = omega (arith, ap (λ z. length z.store.rows) e, ap length c.alter_head.ensures.kept, c.requires.stack);
     }

@@ -1,11 +1,8 @@
-use Rattle.std.proofs.Common.{◌≡◌, ◌+◌, true, [], ◌∷◌, length, drop, sym, ap, ◌∙◌, subst, arith}
+use Rattle.std.proofs.Common.{◌≡◌, ◌+◌, true, [], ◌∷◌, length, drop, sym, ap, ◌∙◌, arith}
 use Rattle.std.proofs.lemmas.List.{drop-set-lt, length-append}
-use Rattle.model.specs.Collection.{marking, kept_listed}
+use Rattle.model.specs.Collection.{kept_listed}
 use Rattle.model.specs.Release.{at}
 use Rattle.model.specs.Headers.{is_purple}
-use Rattle.model.specs.Colouring.{Marking, ungray, open_room}
-use Rattle.model.specs.Walk.{Keeps}
-use Rattle.model.proofs.Marks.{marking_keeps, marking_opens}
 use Rattle.collection.proofs.Serves.{mark_purple}
 use Rattle.collection.proofs.Turns.{marking_steady}
 use Rattle.collection.proofs.lists.mark_one.Goals as goal
@@ -16,8 +13,6 @@ walk-requires g c =
     let I = c.requires.serving.walks in
     record {
       fits = I;
-      keeps = subst (λ p. Keeps p marking (Marking k) (open_room ungray)) (sym g.met.S.Records.narrow.0) (marking_keeps k);
-      opens = marking_opens k;
       few = I.sized.few;
       stack = omega (arith, c.requires.stack);
     }

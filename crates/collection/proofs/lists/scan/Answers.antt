@@ -1,10 +1,7 @@
 use Rattle.std.proofs.Common.{◌≡◌, ◌+◌, length, drop, fold, sym, refl, ap, ◌∙◌, subst, arith}
 use Rattle.model.specs.Collected.{AfterScan}
-use Rattle.model.specs.Collection.{scanning, scan_one, scanned}
-use Rattle.model.specs.Colouring.{Scanning, gray, open_room}
-use Rattle.model.proofs.Scans.{scanning_keeps, scanning_opens}
+use Rattle.model.specs.Collection.{scan_one, scanned}
 use Rattle.model.proofs.ScanLaws.{scan_begins, scan_turn, scan_law}
-use Rattle.model.specs.Walk.{Keeps}
 use Rattle.collection.proofs.Serves.{scan_begun, Scans}
 use Rattle.collection.proofs.Turns.{turn_inside, turn_ready, turn_next, turn_all}
 use Rattle.collection.proofs.lists.scan.Goals as goal
@@ -26,8 +23,6 @@ walk-requires g c =
     let I = scan_begins k m.0 start y c.candidate-root.result _ L in
     record {
       fits = I;
-      keeps = subst (λ p. Keeps p scanning (Scanning k) (open_room gray)) (sym g.met.S.Records.narrow.0) (scanning_keeps k);
-      opens = scanning_opens k;
       few = I.sized.few;
       stack = omega (arith, c.requires.stack, ap length L.since.standing.rows, c.loop-i.invariant.1);
     }

@@ -1,13 +1,9 @@
-use mathlib.Core.Path.{◌≡◌, ap, sym, subst, ◌∙◌}
+use mathlib.Core.Path.{◌≡◌, ap, sym, ◌∙◌}
 use mathlib.Core.Bool.{true}
 use native.Mathlib.Omega.{arith}
-use Rattle.model.specs.Collection.{restoring}
 use Rattle.model.specs.Headers.{is_gray}
-use Rattle.model.specs.Colouring.{Restoring, unblack, open_room}
 use Rattle.model.specs.Release.{at}
-use Rattle.model.proofs.Restores.{restoring_keeps, restoring_opens}
 use Rattle.model.proofs.Scans.{scan_restores}
-use Rattle.model.specs.Walk.{Keeps}
 use Rattle.tracing.proofs.scan.ScanWalk.visit.Goals as goal
 
 pub walk-requires : goal.walk-requires
@@ -19,8 +15,6 @@ walk-requires g c =
     sym (ap (λ h. is_gray h.colour) c.read_head-head.ensures.value) ∙ sym c.if-not-is_gray.ensures.value in
     record {
       fits = scan_restores k y c.args.t ready.rest ready.fits tint;
-      keeps = subst (λ w. Keeps w restoring (Restoring k) (open_room unblack)) (sym g.met.S.Records.narrow.0) (restoring_keeps k);
-      opens = restoring_opens k;
       few = c.requires.few;
       stack = omega (arith, c.requires.stack);
     }
