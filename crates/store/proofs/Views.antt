@@ -1,9 +1,11 @@
 -- One entry of a table read or written, by what the tables mean.
-use Rattle.std.proofs.Common.{◌≡◌, ℕ, ◌<◌, List, map, length, take, set, refl, ap, ◌∙◌, arith}
+use Rattle.std.proofs.Common.{◌≡◌, ℕ, ◌<◌, ◌≤◌, true, List, map, length, take, set, sym, refl, ap, ◌∙◌, arith}
 use Rattle.std.proofs.Math.Seq.{take-set-lt}
 use Rattle.std.proofs.lemmas.List.{map-set, length-take-le, length-map}
 use Rattle.kinds.specs.declared.kind.Kind.{Ghosts}
 use Rattle.kinds.specs.Rows.{Bounded}
+use Rattle.model.specs.Calls.{is_held}
+use Rattle.model.proofs.LawfulCalls.{held_from_test}
 use Rattle.steps.specs.Keeping.{LawfulStore as LawfulOf}
 use Rattle.store.proofs.Evidence.{lawful_shown}
 use Rattle.store.specs.Meaning.{meaning, stacked, records, Roomy}
@@ -43,6 +45,12 @@ lawful_for g s b = record {
     work_room = omega (arith, s.contents.work_room, size_is g s.contents);
   };
 }
+
+-- a record that passes the test stands in the tables
+pub held_stands : {K : Type 0} (g : Ghosts K) (s : Contents K) (r : ℕ) → true ≡ is_held (meaning g s) r → (1 ≤ r) × (r ≤ s.n)
+held_stands g s r e =
+    let w = (held_from_test (meaning g s) r (sym e)).0 in
+    (w.0, omega (arith, w.1, size_is g s))
 
 pub same_store : {K : Type 0} {g : Ghosts K} (s : Store K g) → Same s s
 same_store s = record {
