@@ -20,21 +20,20 @@ fn print_all(rt: &impl Print, calls: &[Call], replies: &[Reply]) -> io::Result<(
     Ok(())
 }
 
-// Plays the calls on a new store of the first n records, and prints each with its reply.
+// Plays the calls on a new store of the records, and prints each with its reply.
 fn session<K: Kind>(
     rt: &impl Print,
     title: &str,
     records: &mut [K],
-    n: usize,
     calls: &[Call],
 ) -> io::Result<()> {
-    let n = n.min(records.len()).min(200);
+    let n = records.len().min(200);
     let mut heads = [Head::free(0); 200];
     let mut list = [0u16; 200];
     let mut work = [0u32; 400];
     let mut replies = [Reply::Done; 36];
     let tables = Tables {
-        records: &mut records[..n],
+        records,
         heads: &mut heads[..n],
         list: &mut list[..n],
         work: &mut work,
@@ -45,33 +44,55 @@ fn session<K: Kind>(
 }
 
 // Every session, on the records of one kind.
-fn all_sessions<K: Kind>(rt: &impl Print, records: &mut [K]) -> io::Result<()> {
-    session(rt, "most calls", records, 3, &sessions::most_calls())?;
-    session(rt, "one make too many", records, 3, &sessions::makes())?;
-    session(rt, "a lone record", records, 3, &sessions::lone_record())?;
-    session(rt, "a ring of one", records, 3, &sessions::ring_of_one())?;
-    session(rt, "a ring of two", records, 200, &sessions::ring_of_two())?;
-    session(rt, "a held ring", records, 3, &sessions::held_ring(1, 2))?;
+fn all_sessions<K: Kind>(rt: &impl Print, records: &mut [K; 200]) -> io::Result<()> {
+    session(rt, "most calls", &mut records[..3], &sessions::most_calls())?;
+    session(
+        rt,
+        "one make too many",
+        &mut records[..3],
+        &sessions::makes(),
+    )?;
+    session(
+        rt,
+        "a lone record",
+        &mut records[..3],
+        &sessions::lone_record(),
+    )?;
+    session(
+        rt,
+        "a ring of one",
+        &mut records[..3],
+        &sessions::ring_of_one(),
+    )?;
+    session(rt, "a ring of two", records, &sessions::ring_of_two())?;
+    session(
+        rt,
+        "a held ring",
+        &mut records[..3],
+        &sessions::held_ring(1, 2),
+    )?;
     session(
         rt,
         "a held ring, 2 first",
-        records,
-        3,
+        &mut records[..3],
         &sessions::held_ring(2, 1),
     )?;
-    session(rt, "a spent record", records, 2, &sessions::spent_record())?;
+    session(
+        rt,
+        "a spent record",
+        &mut records[..2],
+        &sessions::spent_record(),
+    )?;
     session(
         rt,
         "a chain released",
-        records,
-        2,
+        &mut records[..2],
         &sessions::released_chain(),
     )?;
     session(
         rt,
         "the same link twice",
-        records,
-        2,
+        &mut records[..2],
         &sessions::same_link(),
     )
 }
