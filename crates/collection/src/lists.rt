@@ -36,7 +36,6 @@ fn strike<S: Records>(store: &mut S, r: usize)
 // A purple record of the list is walked and stays on it; any other is struck.
 fn mark_one<S: Records>(store: &mut S, r: usize)
     requires serving { Marks S.Records.shape (S.Stacked.progress store.old) r }
-    requires stack { length (S.Stacked.progress store.old).store.rows ≤ length (S.Stacked.stack store.old) }
     ensures meaning { S.Stacked.progress store.new ≡ marked_one S.Records.shape (S.Stacked.progress store.old) r }
     ensures wide { length (S.Stacked.stack store.new) ≡ length (S.Stacked.stack store.old) }
     ensures aside { drop (length (S.Stacked.progress store.old).store.candidates + 1) (S.Stacked.table store.new) ≡ drop (length (S.Stacked.progress store.old).store.candidates + 1) (S.Stacked.table store.old) }
@@ -54,7 +53,6 @@ fn mark_one<S: Records>(store: &mut S, r: usize)
 pub fn mark<S: Records>(store: &mut S)
     requires lawful { Lawful S.Records.shape (S.Stacked.progress store.old).store }
     requires few { FewGiven (S.Stacked.progress store.old) }
-    requires stack { 2 * length (S.Stacked.progress store.old).store.rows ≤ length (S.Stacked.stack store.old) }
     ensures meaning { S.Stacked.progress store.new ≡ marked S.Records.shape (S.Stacked.progress store.old) }
     ensures law { AfterMark S.Records.shape (S.Stacked.progress store.old) (S.Stacked.progress store.new) }
     ensures wide { length (S.Stacked.stack store.new) ≡ length (S.Stacked.stack store.old) }
@@ -70,7 +68,6 @@ pub fn mark<S: Records>(store: &mut S)
 // Scan: what is unreachable turns white, and the rest of the gray black again.
 pub fn scan<S: Records>(store: &mut S)
     requires marked { (g : Progress) × (Lawful S.Records.shape g.store × AfterMark S.Records.shape g (S.Stacked.progress store.old)) }
-    requires stack { 2 * length (S.Stacked.progress store.old).store.rows ≤ length (S.Stacked.stack store.old) }
     ensures meaning { S.Stacked.progress store.new ≡ scanned (S.Stacked.progress store.old) }
     ensures law { (g : Progress) → Lawful S.Records.shape g.store → AfterMark S.Records.shape g (S.Stacked.progress store.old) → AfterScan S.Records.shape g (S.Stacked.progress store.new) }
     ensures wide { length (S.Stacked.stack store.new) ≡ length (S.Stacked.stack store.old) }
@@ -85,7 +82,6 @@ pub fn scan<S: Records>(store: &mut S)
 // A record is taken off the list and walked.
 fn gather_one<S: Records>(store: &mut S, r: usize)
     requires serving { Gathers S.Records.shape (S.Stacked.progress store.old) r }
-    requires stack { length (S.Stacked.progress store.old).store.rows ≤ length (S.Stacked.stack store.old) }
     ensures meaning { S.Stacked.progress store.new ≡ gathered_one S.Records.shape (S.Stacked.progress store.old) r }
     ensures wide { length (S.Stacked.stack store.new) ≡ length (S.Stacked.stack store.old) }
     ensures aside { S.Stacked.table store.new ≡ S.Stacked.table store.old }
@@ -97,7 +93,6 @@ fn gather_one<S: Records>(store: &mut S, r: usize)
 // Gather: what is white is given up, and the list is empty.
 pub fn gather<S: Records>(store: &mut S)
     requires scanned { (g : Progress) × (Lawful S.Records.shape g.store × (FewGiven g × AfterScan S.Records.shape g (S.Stacked.progress store.old))) }
-    requires stack { 2 * length (S.Stacked.progress store.old).store.rows ≤ length (S.Stacked.stack store.old) }
     ensures meaning { S.Stacked.progress store.new ≡ gathered S.Records.shape (S.Stacked.progress store.old) }
     ensures law { (g : Progress) → Lawful S.Records.shape g.store → FewGiven g → AfterScan S.Records.shape g (S.Stacked.progress store.old) → AfterCollection S.Records.shape g (S.Stacked.progress store.new) }
     ensures wide { length (S.Stacked.stack store.new) ≡ length (S.Stacked.stack store.old) }
@@ -114,7 +109,6 @@ pub fn gather<S: Records>(store: &mut S)
 pub fn collect<S: Records>(store: &mut S)
     requires lawful { Lawful S.Records.shape (S.Stacked.progress store.old).store }
     requires few { FewGiven (S.Stacked.progress store.old) }
-    requires stack { 2 * length (S.Stacked.progress store.old).store.rows ≤ length (S.Stacked.stack store.old) }
     ensures meaning { S.Stacked.progress store.new ≡ collected S.Records.shape (S.Stacked.progress store.old) }
     ensures law { AfterCollection S.Records.shape (S.Stacked.progress store.old) (S.Stacked.progress store.new) }
     ensures wide { length (S.Stacked.stack store.new) ≡ length (S.Stacked.stack store.old) }

@@ -58,8 +58,6 @@ impl<S: Records> Walk<S> for Release {
 
     ghost left = { counted_open };
 
-    ghost spare = { λ _. 0 };
-
     fn follow(store: &mut S, t: usize) {
         alter_head(store, t, Head::lessened);
     }

@@ -16,40 +16,11 @@ use Rattle.model.proofs.LawfulAnswers.{lawful_answered}
 use Rattle.model.proofs.Lowering.{lower_walked}
 use Rattle.model.proofs.Releases.{release_keeps}
 use Rattle.model.proofs.Walks.{walk_keeps}
-use Rattle.steps.specs.Keeping.{Keeping}
 use Rattle.steps.specs.Replies.{leaving}
 
--- records, as many as before, and a stack as long as before
-pub keeping_on :
-    (k : Shape) (w : ℕ) (s z : State) (t u : List ℕ) → Keeping k w s t → Lawful k z → length z.rows ≡ length s.rows →
-    length u ≡ length t → Keeping k w z u
-keeping_on k w s z t u K law n m = record {
-  rules = law;
-  bounded = K.bounded;
-  narrow = K.narrow;
-  work_room = omega (arith, K.work_room, n, m);
-}
-
-pub keeping_answered :
-    (k : Shape) (w : ℕ) (s z : State) (t u : List ℕ) (c : Call) (r : Reply) → Keeping k w s t →
-    leaving r z ≡ answered k s c → length z.rows ≡ length s.rows → length u ≡ length t → Keeping k w z u
-keeping_answered k w s z t u c r K e n m =
-    keeping_on k w s z t u K (subst (Lawful k) (sym (ap (λ a. a.store) e)) (lawful_answered k s K.rules c)) n m
+pub lawful_kept : (k : Shape) (s z : State) (c : Call) (r : Reply) → Lawful k s → leaving r z ≡ answered k s c → Lawful k z
+lawful_kept k s z c r law e = subst (Lawful k) (sym (ap (λ a. a.store) e)) (lawful_answered k s law c)
 
 -- where nothing is given up yet, there is room for every give-up
 pub few_start : (k : Shape) (v : State) (Q : List Task) → Releasing k (started v) Q → FewGiven (started v)
 few_start k v Q I = omega (arith, I.few, I.heads_fit, count_by-le-length (λ h. h.used) v.heads)
-
--- there are as many records after a release as before
-pub lower_size :
-    (k : Shape) (g : Progress) (t : ℕ) → Releasing k g (follow t ∷ []) → length (lower k g t).store.rows ≡ length g.store.rows
-lower_size k g t I = ⊎_elim
-    (λ e. ap (λ x. length (lower k g x).store.rows) e)
-    (λ n.
-    let K = release_keeps k in
-    let f = K.follows g t [] n I in
-    let y = (releasing k).follow g t in
-    let w = walk_keeps k.links (releasing k) (Releasing k) counted_room K (suc (length y.store.rows)) y t []
-    (omega (arith, K.most y (visit t ∷ []) f.fits)) f.fits in
-    ap (λ z. length z.store.rows) (lower_walked k g t n) ∙ w.size ∙ ap length f.rows)
-    (cases_eq t 0)

@@ -33,7 +33,6 @@ pub fn take_front<S: Fields>(store: &mut S, r: usize)
 pub fn lower<S: Fields>(store: &mut S, t: usize)
     requires owing { Releasing S.Records.shape (S.Stacked.progress store.old) (to_follow t ∷ []) }
     requires few { FewGiven (S.Stacked.progress store.old) }
-    requires stack { 2 * length (S.Stacked.progress store.old).store.rows ≤ length (S.Stacked.stack store.old) }
     ensures after { S.Stacked.progress store.new ≡ lower_of S.Records.shape (S.Stacked.progress store.old) t }
     ensures wide { length (S.Stacked.stack store.new) ≡ length (S.Stacked.stack store.old) }
 {

@@ -3,11 +3,11 @@ use Rattle.std.proofs.Common.{◌≡◌, ℕ, ◌<◌, ◌≤◌, true, List, ma
 use Rattle.std.proofs.Math.Seq.{take-set-lt}
 use Rattle.std.proofs.lemmas.List.{map-set, length-take-le, length-map}
 use Rattle.kinds.specs.declared.kind.Kind.{Ghosts}
-use Rattle.kinds.specs.Rows.{Bounded}
 use Rattle.model.specs.Calls.{is_held}
 use Rattle.model.proofs.LawfulCalls.{held_from_test}
 use Rattle.steps.specs.Keeping.{LawfulStore as LawfulOf}
 use Rattle.store.proofs.Evidence.{lawful_shown}
+use Rattle.store.specs.Sizing.{size_is}
 use Rattle.store.specs.Meaning.{meaning, stacked, records, Roomy}
 use Rattle.store.specs.View.{view, LawfulStore, Same}
 use Rattle.store.specs.declared.contents.Contents.{Contents}
@@ -27,30 +27,19 @@ roomy s = record {
   listed_room = s.listed_room;
 }
 
--- N, by the rows
-pub size_is : {K : Type 0} (g : Ghosts K) (s : Contents K) → length (meaning g s).rows ≡ s.n
-size_is g s = length-map (take s.n s.tables.records.now) g.row ∙ length-take-le s.n s.tables.records.now s.records_room
-
 -- every store is lawful: its type says so
 pub lawful_store : {K : Type 0} (g : Ghosts K) (s : Store K g) → LawfulStore g s
 lawful_store g s = record { room = roomy s.contents; rules = lawful_shown g.shape (view g s) s.lawful }
 
 -- what the calls over any store ask for
-pub lawful_for : {K : Type 0} (g : Ghosts K) (s : Store K g) → Bounded g.shape → LawfulOf (stacked g) (records g) s.contents
-lawful_for g s b = record {
-  keeping = record {
-    rules = lawful_shown g.shape (view g s) s.lawful;
-    bounded = b;
-    narrow = refl;
-    work_room = omega (arith, s.contents.work_room, size_is g s.contents);
-  };
-}
+pub lawful_for : {K : Type 0} (g : Ghosts K) (s : Store K g) → LawfulOf (stacked g) (records g) s.contents
+lawful_for g s = lawful_shown g.shape (view g s) s.lawful
 
 -- a record that passes the test stands in the tables
 pub held_stands : {K : Type 0} (g : Ghosts K) (s : Contents K) (r : ℕ) → true ≡ is_held (meaning g s) r → (1 ≤ r) × (r ≤ s.n)
 held_stands g s r e =
     let w = (held_from_test (meaning g s) r (sym e)).0 in
-    (w.0, omega (arith, w.1, size_is g s))
+    (w.0, omega (arith, w.1, size_is g.row s))
 
 pub same_store : {K : Type 0} {g : Ghosts K} (s : Store K g) → Same s s
 same_store s = record {

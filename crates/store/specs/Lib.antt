@@ -2,3 +2,4 @@ pub mod Meaning
 pub mod Sizes
 pub mod Tables
 pub mod View
+pub mod Sizing

@@ -11,6 +11,7 @@ use model::refusals::Refusal;
 
 impl<'a, K: Kind> Store<'a, K> {
     // Sets byte `b` of a held record.
+    #[tactic(auto, using(crate::proofs::Evidence::lawful_shown))]
     pub fn write_byte(&mut self, r: usize, b: usize, v: u8) -> Result<(), Refusal>
         ensures answer { leaving (granted result) (view K.Kind self.new) ≡ byte K.Kind.shape (view K.Kind self.old) r b v }
         ensures untouched { is_err result ≡ true → Same self.old self.new }

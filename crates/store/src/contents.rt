@@ -17,6 +17,7 @@ pub struct Contents<'a, K> {
     pub(crate) front: usize,
     // how many records the call under way has given up
     pub(crate) given: usize,
+    ghost few: { n ≤ 4095 },
     ghost records_room: { n ≤ length tables.records.now },
     ghost heads_room: { n ≤ length tables.heads.now },
     ghost list_room: { n ≤ length tables.list.now },

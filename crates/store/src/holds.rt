@@ -10,6 +10,7 @@ use model::refusals::Refusal;
 
 impl<'a, K: Kind> Store<'a, K> {
     // A record from the front of the free chain, with one hold.
+    #[tactic(auto, using(crate::proofs::Evidence::lawful_shown))]
     pub fn make(&mut self) -> Result<usize, Refusal>
         ensures answer { leaving (numbered result) (view K.Kind self.new) ≡ make (view K.Kind self.old) }
         ensures untouched { is_err result ≡ true → Same self.old self.new }
@@ -18,6 +19,7 @@ impl<'a, K: Kind> Store<'a, K> {
     }
 
     // One more hold on a held record, which is raised for it.
+    #[tactic(auto, using(crate::proofs::Evidence::lawful_shown))]
     pub fn hold(&mut self, r: usize) -> Result<usize, Refusal>
         ensures answer { leaving (numbered result) (view K.Kind self.new) ≡ hold (view K.Kind self.old) r }
         ensures untouched { is_err result ≡ true → Same self.old self.new }

@@ -3,6 +3,7 @@
 
 mod access;
 mod bytes;
+mod collects;
 pub mod contents;
 mod counts;
 pub mod fields;

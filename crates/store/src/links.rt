@@ -12,6 +12,7 @@ use model::refusals::Refusal;
 
 impl<'a, K: Kind> Store<'a, K> {
     // Reads a link of a held record. The record that it names gets a hold; an empty link takes none.
+    #[tactic(auto, using(crate::proofs::Evidence::lawful_shown))]
     pub fn load(&mut self, r: usize, l: usize) -> Result<Option<usize>, Refusal>
         ensures answer { leaving (loaded result) (view K.Kind self.new) ≡ load_call K.Kind.shape (view K.Kind self.old) r l }
         ensures untouched { is_err result ≡ true → Same self.old self.new }
@@ -20,6 +21,7 @@ impl<'a, K: Kind> Store<'a, K> {
     }
 
     // Sets link `l` of a held record to a held record, or to 0. Answers the give-ups.
+    #[tactic(auto, using(crate::proofs::Evidence::lawful_shown))]
     pub fn link(&mut self, r: usize, l: usize, t: usize) -> Result<usize, Refusal>
         ensures answer { leaving (numbered result) (view K.Kind self.new) ≡ link_call K.Kind.shape (view K.Kind self.old) r l t }
         ensures untouched { is_err result ≡ true → Same self.old self.new }
@@ -28,6 +30,7 @@ impl<'a, K: Kind> Store<'a, K> {
     }
 
     // Takes one hold from a held record, and lowers it. Answers the give-ups.
+    #[tactic(auto, using(crate::proofs::Evidence::lawful_shown))]
     pub fn drop_hold(&mut self, r: usize) -> Result<usize, Refusal>
         ensures answer { leaving (numbered result) (view K.Kind self.new) ≡ drop_call K.Kind.shape (view K.Kind self.old) r }
         ensures untouched { is_err result ≡ true → Same self.old self.new }

@@ -11,6 +11,7 @@ use model::refusals::Refusal;
 
 impl<'a, K: Kind> Store<'a, K> {
     // Byte `b` of a held record. It alters nothing.
+    #[tactic(auto, using(crate::proofs::Evidence::lawful_shown))]
     pub fn look(&self, r: usize, b: usize) -> Result<u8, Refusal>
         ensures answer { leaving (numbered result) (view K.Kind self.now) ≡ look K.Kind.shape (view K.Kind self.now) r b }
     {
@@ -18,6 +19,7 @@ impl<'a, K: Kind> Store<'a, K> {
     }
 
     // How many records are in use. It alters nothing.
+    #[tactic(auto, using(crate::proofs::Evidence::lawful_shown))]
     pub fn tally(&self) -> usize
         ensures value { result ≡ in_use (view K.Kind self.now) }
     {

@@ -12,6 +12,7 @@ use performing::perform;
 
 impl<'a, K: Kind> Store<'a, K> {
     // Performs one call. Whatever calls led to this store, the promises over all of them hold after it.
+    #[tactic(auto, using(crate::proofs::Evidence::lawful_shown))]
     pub fn perform(&mut self, call: Call) -> Reply
         ensures answer { leaving result (view K.Kind self.new) ≡ answered K.Kind.shape (view K.Kind self.old) call }
         ensures lawful { LawfulStore K.Kind self.new }

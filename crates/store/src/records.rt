@@ -49,5 +49,7 @@ impl<'a, K: Kind> Records for Contents<'a, K> {
         self.listed = 0;
     }
 
+    ghost bounded = { K.bounded };
+
     ghost narrow = { (refl, K.bounded.few_links) };
 }

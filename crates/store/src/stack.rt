@@ -1,5 +1,6 @@
 // What a store holds, as what a walk needs: links, and the work table as its stack.
-ghost use Rattle.store.specs.Meaning.{progress as progress_of, Roomy};
+ghost use Rattle.store.specs.Meaning.{progress as progress_of};
+ghost use Rattle.store.specs.Sizing.{few_rows, two_entries};
 
 use crate::contents::Contents;
 use kinds::kind::Kind;
@@ -31,4 +32,8 @@ impl<'a, K: Kind> Stacked for Contents<'a, K> {
         // `as`: an entry is known to have 32 bits
         self.tables.work[at] = n as u32;
     }
+
+    ghost few = { λ s. few_rows _ s };
+
+    ghost room = { λ s. two_entries _ s };
 }

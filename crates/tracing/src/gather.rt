@@ -21,8 +21,6 @@ impl<S: Records> Walk<S> for Gather {
 
     ghost left = { open_once white };
 
-    ghost spare = { λ _. 0 };
-
     ghost apart = { λ l. l };
 
     fn follow(_store: &mut S, _t: usize) {}

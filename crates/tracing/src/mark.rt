@@ -20,8 +20,6 @@ impl<S: Records> Walk<S> for Mark {
 
     ghost left = { open_once ungray };
 
-    ghost spare = { λ _. 0 };
-
     ghost apart = { λ l. l };
 
     fn follow(store: &mut S, t: usize) {

@@ -20,8 +20,6 @@ impl<S: Records> Walk<S> for Restore {
 
     ghost left = { open_once unblack };
 
-    ghost spare = { λ _. 0 };
-
     ghost apart = { λ l. l };
 
     fn follow(store: &mut S, t: usize) {

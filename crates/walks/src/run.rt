@@ -1,7 +1,7 @@
 // The walk as a loop.
 ghost use Rattle.std.specs.Prelude.{◌≡◌, ◌+◌, ◌<◌, ◌≤◌, true, [], ◌∷◌, length, take};
-ghost use Rattle.model.specs.Entering.{Laws, Opens};
-ghost use Rattle.model.specs.Walk.{Keeps, Ready, full};
+ghost use Rattle.model.specs.Entering.{Laws};
+ghost use Rattle.model.specs.Walk.{Ready, full};
 ghost use Rattle.model.specs.Walk.Task.{visit as to_visit};
 ghost use Rattle.walks.specs.Begun.{Begun};
 
@@ -12,7 +12,6 @@ use crate::steps::Walk;
 fn begin<S: Stacked, W: Walk<S>>(store: &mut S, t: usize, top: usize) -> usize
     requires ready { Ready W.Walk.fits (S.Stacked.progress store.old) (to_visit t) }
     requires named { t ≤ 4095 }
-    requires few { length (S.Stacked.progress store.old).store.rows ≤ 4095 }
     requires stack { top + W.Walk.spare (length (S.Stacked.progress store.old).store.rows) ≤ length (S.Stacked.stack store.old) }
     requires free { W.Walk.rule.enters (S.Stacked.progress store.old) t ≡ true → top < length (S.Stacked.stack store.old) }
     ensures begun { Begun W.Walk.rule t top (S.Stacked.progress store.old) (S.Stacked.stack store.old) (S.Stacked.progress store.new) (S.Stacked.stack store.new) result }
@@ -30,7 +29,6 @@ fn begin<S: Stacked, W: Walk<S>>(store: &mut S, t: usize, top: usize) -> usize
 // table as numbers of 32 bits and there is no heap for a stack of another form.
 pub fn walk<S: Stacked, W: Walk<S>>(store: &mut S, root: usize, base: usize)
     requires fits { W.Walk.fits (S.Stacked.progress store.old) (to_visit root ∷ []) }
-    requires few { length (S.Stacked.progress store.old).store.rows ≤ 4095 }
     requires stack { base + (length (S.Stacked.progress store.old).store.rows + W.Walk.spare (length (S.Stacked.progress store.old).store.rows)) ≤ length (S.Stacked.stack store.old) }
     ensures meaning { S.Stacked.progress store.new ≡ full W.Walk.rule (S.Stacked.progress store.old) root }
     ensures laws { Laws W.Walk.rule (S.Stacked.progress store.old) root }

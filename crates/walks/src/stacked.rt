@@ -1,5 +1,5 @@
 // What a walk asks of a store.
-ghost use Rattle.std.specs.Prelude.{◌≡◌, ℕ, ◌^◌, ◌<◌, ◌≤◌, List, [], length, slice_index, slice_set};
+ghost use Rattle.std.specs.Prelude.{◌≡◌, ℕ, ◌*◌, ◌^◌, ◌<◌, ◌≤◌, List, [], length, slice_index, slice_set};
 ghost use Rattle.model.specs.State.{Within, row};
 ghost use Rattle.model.specs.Walk.{Progress};
 
@@ -40,4 +40,10 @@ pub trait Stacked {
         ensures short { length (stack self.new) < 2 ^ 64 }
         ensures same { progress self.new ≡ progress self.old }
         ensures aside { table self.new ≡ table self.old };
+
+    // There are as many records as links can name, at most.
+    ghost few: { (s : Self) → length (progress s).store.rows ≤ 4095 };
+
+    // The table has two entries for each record.
+    ghost room: { (s : Self) → 2 * length (progress s).store.rows ≤ length (stack s) };
 }

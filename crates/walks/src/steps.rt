@@ -19,8 +19,8 @@ pub trait Walk<S: Stacked> {
     // How often a record can still be entered: once, or not at all.
     ghost left: { Progress → List Task → ℕ → ℕ };
 
-    // The stack that the steps themselves need, where there are so many records.
-    ghost spare: { ℕ → ℕ };
+    // The stack that the steps themselves need, where there are so many records: none, where nothing is said.
+    ghost spare: { ℕ → ℕ } = { λ _. 0 };
 
     // What of the table of the candidate list no step alters: none, where nothing is said.
     ghost apart: { List ℕ → List ℕ } = { λ _. [] };
@@ -36,7 +36,6 @@ pub trait Walk<S: Stacked> {
     // Begins the walk of `t` itself, or passes it; a walk inside may use the stack from `base` on.
     fn visit(store: &mut S, t: usize, base: usize) -> bool
         requires ready { Ready fits (S.Stacked.progress store.old) (to_visit t) }
-        requires few { length (S.Stacked.progress store.old).store.rows ≤ 4095 }
         requires stack { base + spare (length (S.Stacked.progress store.old).store.rows) ≤ length (S.Stacked.stack store.old) }
         ensures answer { result ≡ rule.enters (S.Stacked.progress store.old) t }
         ensures meaning { S.Stacked.progress store.new ≡ (if result then rule.enter (S.Stacked.progress store.old) t else rule.pass (S.Stacked.progress store.old) t) }

@@ -6,6 +6,7 @@ use Rattle.model.specs.Releasing.{Releasing, FewGiven}
 use Rattle.model.specs.State.{head, with_head}
 use Rattle.model.specs.Headers.{held_less}
 use Rattle.model.specs.Walk.Task.{follow}
+use Rattle.model.specs.declared.calls.Call.TheVariants.{Drop}
 use Rattle.model.specs.declared.calls.Reply.TheVariants.{Number}
 use Rattle.model.proofs.Accepted.{asked_yes}
 use Rattle.model.proofs.LawfulCalls.{held_from_test}
@@ -13,7 +14,7 @@ use Rattle.model.proofs.Lowering.{lawful_lower}
 use Rattle.model.proofs.Owing.{owing_drop}
 use Rattle.steps.specs.Keeping.{state}
 use Rattle.steps.specs.Replies.{leaving}
-use Rattle.steps.proofs.Keeps.{keeping_on, few_start, lower_size}
+use Rattle.steps.proofs.Keeps.{lawful_kept, few_start}
 use Rattle.reclaim.proofs.Turned.{turned}
 use Rattle.linking.proofs.let_go.Goals as goal
 
@@ -25,18 +26,10 @@ lower-requires g c =
     let r = c.args.r in
     let begun : S.progress c.alter_head.new.store ≡ started (with_head v r (held_less (head v r))) =
     turned held_less _ _ r (λ a b p. p.1) c.alter_head.ensures.after ∙ ap (λ y. turn y r (held_less (head y.store r))) c.start.ensures.after in
-    let owing = owing_drop k v r c.requires.lawful.keeping.rules (held_from_test v r c.requires.held) in
+    let owing = owing_drop k v r c.requires.lawful (held_from_test v r c.requires.held) in
     record {
       owing = subst (λ y. Releasing k y (follow r ∷ [])) (sym begun) owing;
       few = subst FewGiven (sym begun) (few_start k (with_head v r (held_less (head v r))) (follow r ∷ []) owing);
-      stack =
-          omega (
-            arith,
-            c.requires.lawful.keeping.work_room,
-            ap (λ y. length y.store.rows) begun,
-            ap length c.alter_head.ensures.kept,
-            ap length c.start.ensures.kept,
-          );
     }
 
 pub returns : goal.returns
@@ -47,17 +40,11 @@ returns g c =
     let r = c.args.r in
     let begun : S.progress c.alter_head.new.store ≡ started (with_head v r (held_less (head v r))) =
     turned held_less _ _ r (λ a b p. p.1) c.alter_head.ensures.after ∙ ap (λ y. turn y r (held_less (head y.store r))) c.start.ensures.after in
-    let owing = owing_drop k v r c.requires.lawful.keeping.rules (held_from_test v r c.requires.held) in
     let after = c.lower.ensures.after ∙ ap (λ y. lower k y r) begun in
+    let answer =
+    ap (λ n. leaving (Number n) (state S c.lower.new.store)) c.given.ensures.value ∙ ap given_ups after
+    ∙ sym (asked_yes v (λ _. drop_answer k v r) _ _ c.requires.held refl) in
     record {
-      answer =
-          ap (λ n. leaving (Number n) (state S c.lower.new.store)) c.given.ensures.value ∙ ap given_ups after
-          ∙ sym (asked_yes v (λ _. drop_answer k v r) _ _ c.requires.held refl);
-      lawful = record {
-        keeping =
-            keeping_on k S.width v (state S c.lower.new.store) _ _ c.requires.lawful.keeping
-            (subst (λ y. Lawful k y.store) (sym after) (lawful_lower k (started (with_head v r (held_less (head v r)))) r owing))
-            (ap (λ y. length y.store.rows) after ∙ lower_size k (started (with_head v r (held_less (head v r)))) r owing)
-            (c.lower.ensures.wide ∙ ap length c.alter_head.ensures.kept ∙ ap length c.start.ensures.kept);
-      };
+      answer = answer;
+      lawful = lawful_kept k v (state S c.lower.new.store) (Drop r) (Number c.given.result) c.requires.lawful answer;
     }

@@ -11,4 +11,4 @@ add_hold-requires g c =
     let t = c.link-t.result in
     let ne : t ≢ 0 = c.if-t-eq0.false in
     let ties : Links v c.args.r t = (omega arith, (c.args.l, sym c.link-t.ensures.value)) in
-    record { lawful = c.requires.lawful; used = c.requires.lawful.keeping.rules.links_used c.args.r t h.0 ties }
+    record { lawful = c.requires.lawful; used = c.requires.lawful.links_used c.args.r t h.0 ties }

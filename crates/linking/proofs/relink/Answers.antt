@@ -9,6 +9,7 @@ use Rattle.model.specs.Releasing.{Releasing, FewGiven}
 use Rattle.model.specs.State.{State, Within, head, row, with_head, with_row}
 use Rattle.model.specs.Headers.{raised}
 use Rattle.model.specs.Walk.Task.{follow}
+use Rattle.model.specs.declared.calls.Call.TheVariants.{Link}
 use Rattle.model.specs.declared.calls.Reply.TheVariants.{Number}
 use Rattle.model.proofs.Accepted.{asked_yes}
 use Rattle.model.proofs.LawfulAnswers.{target_from_test, owing_relinked}
@@ -16,7 +17,7 @@ use Rattle.model.proofs.LawfulCalls.{count_small}
 use Rattle.model.proofs.Lowering.{lawful_lower}
 use Rattle.steps.specs.Keeping.{state}
 use Rattle.steps.specs.Replies.{leaving}
-use Rattle.steps.proofs.Keeps.{keeping_on, few_start, lower_size}
+use Rattle.steps.proofs.Keeps.{lawful_kept, few_start}
 use Rattle.linking.proofs.relink.Goals as goal
 
 raised_rows : (v : State) (t : ℕ) → (raised_at v t).rows ≡ v.rows
@@ -30,7 +31,6 @@ raise-requires g c =
     let k = g.S.Records.shape in
     let v = state g.S.Stacked c.args.store.now in
     let t = c.args.t in
-    let K = c.requires.lawful.keeping in
     let p = target_from_test v c.args.r t c.requires.held in
     let first : Within v 1 = (omega arith, omega (arith, p.0.0)) in
     let e = c.start.ensures.after in
@@ -42,8 +42,8 @@ raise-requires g c =
             arith,
             ap (λ y. (head y.store t).count) e,
             ⊎_elim {C = (head v t).count < 4294967295}
-                (λ z. omega (arith, ap (λ y. (head v y).count) z, count_small k v K.rules K.bounded 1 first))
-                (λ h. omega (arith, count_small k v K.rules K.bounded t h.0)) p.1,
+                (λ z. omega (arith, ap (λ y. (head v y).count) z, count_small k v c.requires.lawful g.met.S.Records.bounded 1 first))
+                (λ h. omega (arith, count_small k v c.requires.lawful g.met.S.Records.bounded t h.0)) p.1,
           );
     }
 
@@ -62,21 +62,11 @@ lower-requires g c =
     let old : c.link-old.result ≡ get_or (row v r).links l 0 =
     c.link-old.ensures.value ∙ ap (λ y. get_or (row y.store r).links l 0) c.start.ensures.after in
     let p = target_from_test v r t c.requires.held in
-    let owing = owing_relinked k v r l t c.requires.lawful.keeping.rules p.0 p.1 c.requires.field in
+    let owing = owing_relinked k v r l t c.requires.lawful p.0 p.1 c.requires.field in
     record {
       owing = subst (λ y. Releasing k y (follow c.link-old.result ∷ [])) (sym begun)
           (subst (λ u. Releasing k (started (relinked (raised_at v t) r l t)) (follow u ∷ [])) (sym old) owing);
       few = subst FewGiven (sym begun) (few_start k (relinked (raised_at v t) r l t) (follow (get_or (row v r).links l 0) ∷ []) owing);
-      stack =
-          omega (
-            arith,
-            c.requires.lawful.keeping.work_room,
-            ap (λ y. length y.store.rows) begun,
-            relinked_size v r l t,
-            ap length c.write_link.ensures.kept,
-            ap length c.raise.ensures.kept,
-            ap length c.start.ensures.kept,
-          );
     }
 
 pub returns : goal.returns
@@ -94,19 +84,13 @@ returns g c =
     let old : c.link-old.result ≡ get_or (row v r).links l 0 =
     c.link-old.ensures.value ∙ ap (λ y. get_or (row y.store r).links l 0) c.start.ensures.after in
     let p = target_from_test v r t c.requires.held in
-    let owing = owing_relinked k v r l t c.requires.lawful.keeping.rules p.0 p.1 c.requires.field in
+    let owing = owing_relinked k v r l t c.requires.lawful p.0 p.1 c.requires.field in
     let after =
     c.lower.ensures.after ∙ ap (λ y. lower k y c.link-old.result) begun ∙ ap (lower k (started (relinked (raised_at v t) r l t))) old in
+    let answer =
+    ap (λ n. leaving (Number n) (state S c.lower.new.store)) c.given.ensures.value ∙ ap given_ups after
+    ∙ sym (asked_yes v (λ _. link_answer k v r l t) _ _ c.requires.held (lt-ltb l k.links c.requires.field)) in
     record {
-      answer =
-          ap (λ n. leaving (Number n) (state S c.lower.new.store)) c.given.ensures.value ∙ ap given_ups after
-          ∙ sym (asked_yes v (λ _. link_answer k v r l t) _ _ c.requires.held (lt-ltb l k.links c.requires.field));
-      lawful = record {
-        keeping =
-            keeping_on k S.width v (state S c.lower.new.store) _ _ c.requires.lawful.keeping
-            (subst (λ y. Lawful k y.store) (sym after) (lawful_lower k (started (relinked (raised_at v t) r l t)) (get_or (row v r).links l 0) owing))
-            (ap (λ y. length y.store.rows) after
-            ∙ lower_size k (started (relinked (raised_at v t) r l t)) (get_or (row v r).links l 0) owing ∙ relinked_size v r l t)
-            (c.lower.ensures.wide ∙ ap length (c.write_link.ensures.kept ∙ c.raise.ensures.kept ∙ c.start.ensures.kept));
-      };
+      answer = answer;
+      lawful = lawful_kept k v (state S c.lower.new.store) (Link r l t) (Number c.given.result) c.requires.lawful answer;
     }

@@ -7,7 +7,7 @@ use Rattle.model.specs.declared.calls.Reply.TheVariants.{Done}
 use Rattle.model.proofs.Accepted.{asked_yes}
 use Rattle.steps.specs.Keeping.{state}
 use Rattle.steps.specs.Replies.{leaving}
-use Rattle.steps.proofs.Keeps.{keeping_answered}
+use Rattle.steps.proofs.Keeps.{lawful_kept}
 use Rattle.linking.proofs.set_byte.Goals as goal
 
 pub returns : goal.returns
@@ -23,9 +23,5 @@ returns g c =
     ∙ sym (asked_yes v (λ _. byte_answer v r b c.args.v) _ _ c.requires.held (lt-ltb b k.bytes c.requires.field)) in
     record {
       after = answer;
-      lawful = record {
-        keeping =
-            keeping_answered k g.S.Stacked.width v z _ _ (Byte r b c.args.v) Done c.requires.lawful.keeping answer
-            (ap (λ y. length y.store.rows) after ∙ length-set v.rows (r - 1) _) (ap length c.put_byte.ensures.kept);
-      };
+      lawful = lawful_kept k v z (Byte r b c.args.v) Done c.requires.lawful answer;
     }

@@ -25,7 +25,6 @@ gather_one-requires g c =
     let L = turn_ready (gather_one k) (Gatherings k) _ _ _ _ y _ c.loop-i.invariant.0 c.loop-i-test.true _ c.candidate-next.ensures.value (m.0, start) begun in
     record {
       serving = gather_serves k m.0 start y c.candidate-next.result _ L;
-      stack = omega (arith, c.requires.stack, L.gathers.size, c.loop-i.invariant.1, ap length e.kept);
     }
 
 pub loop-i-preserved : goal.loop-i-preserved

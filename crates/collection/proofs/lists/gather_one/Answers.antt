@@ -17,6 +17,5 @@ walk-requires g c =
     let I = c.requires.serving in
     record {
       fits = subst (λ z. Gathering k z (visit r ∷ []) × FewGiven z) (sym e) (I.walks, I.few_given);
-      few = omega (arith, ap (λ z. length z.store.rows) e, I.walks.sized.few);
-      stack = omega (arith, ap (λ z. length z.store.rows) e, ap length c.alter_head.ensures.kept, c.requires.stack);
+      stack = omega (arith, g.met.S.Stacked.room c.alter_head.new.store);
     }

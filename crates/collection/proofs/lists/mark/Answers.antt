@@ -17,7 +17,6 @@ mark_one-requires g c =
     let M = turn_ready (mark_one k) (MarkList k) _ _ _ _ y _ c.loop-i.invariant.0 c.loop-i-test.true _ c.candidate-r.ensures.value start begun in
     record {
       serving = mark_serves k start y c.candidate-r.result _ M c.requires.few (omega (arith, c.loop-i.invariant.1.0, c.loop-i-test.true, c.listed-n.ensures.room));
-      stack = omega (arith, c.requires.stack, ap length M.rows_same, c.loop-i.invariant.1.1, ap length e.kept);
     }
 
 pub loop-i-preserved : goal.loop-i-preserved

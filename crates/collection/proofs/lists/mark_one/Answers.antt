@@ -13,8 +13,7 @@ walk-requires g c =
     let I = c.requires.serving.walks in
     record {
       fits = I;
-      few = I.sized.few;
-      stack = omega (arith, c.requires.stack);
+      stack = omega (arith, g.met.S.Stacked.room c.args.store.now);
     }
 
 pub push-requires : goal.push-requires

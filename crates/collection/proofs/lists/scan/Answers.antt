@@ -23,8 +23,7 @@ walk-requires g c =
     let I = scan_begins k m.0 start y c.candidate-root.result _ L in
     record {
       fits = I;
-      few = I.sized.few;
-      stack = omega (arith, c.requires.stack, ap length L.since.standing.rows, c.loop-i.invariant.1);
+      stack = omega (arith, g.met.S.Stacked.room c.loop-i.store);
     }
 
 pub loop-i-preserved : goal.loop-i-preserved

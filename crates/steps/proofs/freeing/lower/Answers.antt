@@ -14,6 +14,5 @@ walk-requires g c =
     let fits = subst (λ z. Releasing k z (visit t ∷ []) × FewGiven z) (sym e.meaning) f.fits in
     record {
       fits = fits;
-      few = fits.0.few;
-      stack = omega (arith, c.requires.stack, ap (λ z. length z.store.rows) e.meaning, ap length f.rows, ap length e.kept);
+      stack = omega (arith, g.met.S.Stacked.room c.follow.new.store);
     }

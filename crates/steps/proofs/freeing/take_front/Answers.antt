@@ -8,19 +8,19 @@ use Rattle.model.proofs.Accepted.{make_accepted}
 use Rattle.model.proofs.LawfulCalls.{front_free}
 use Rattle.steps.specs.Keeping.{state}
 use Rattle.steps.specs.Replies.{leaving}
-use Rattle.steps.proofs.Keeps.{keeping_answered}
+use Rattle.steps.proofs.Keeps.{lawful_kept}
 use Rattle.steps.proofs.freeing.take_front.Goals as goal
 
 pub read_head-next-requires : goal.read_head-next-requires
 read_head-next-requires g c =
     let v = state g.S.Stacked c.args.store.now in
-    let f = front_free g.S.Records.shape v c.requires.lawful.keeping.rules (λ e. omega (arith, c.requires.front, e)) in
+    let f = front_free g.S.Records.shape v c.requires.lawful (λ e. omega (arith, c.requires.front, e)) in
     record { named = subst (Within v) (sym c.requires.front.1) f.within }
 
 pub write_head-requires : goal.write_head-requires
 write_head-requires g c =
     let v = state g.S.Stacked c.args.store.now in
-    let f = front_free g.S.Records.shape v c.requires.lawful.keeping.rules (λ e. omega (arith, c.requires.front, e)) in
+    let f = front_free g.S.Records.shape v c.requires.lawful (λ e. omega (arith, c.requires.front, e)) in
     record { named = subst (Within v) (sym c.requires.front.1) f.within }
 
 pub returns : goal.returns
@@ -40,9 +40,5 @@ returns g c =
     ∙ sym (make_accepted v (λ e. omega (arith, c.requires.front, e))) in
     record {
       after = answer;
-      lawful = record {
-        keeping =
-            keeping_answered k g.S.Stacked.width v z _ _ Make (Number r) c.requires.lawful.keeping answer (ap (λ y. length y.rows) after)
-            (ap length (c.set_front.ensures.kept ∙ c.write_head.ensures.kept));
-      };
+      lawful = lawful_kept k v z Make (Number r) c.requires.lawful answer;
     }

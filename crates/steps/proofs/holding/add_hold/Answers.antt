@@ -8,17 +8,15 @@ use Rattle.model.proofs.Accepted.{hold_more_accepted}
 use Rattle.model.proofs.LawfulCalls.{count_small, lawful_held_more}
 use Rattle.steps.specs.Keeping.{state}
 use Rattle.steps.specs.Replies.{leaving}
-use Rattle.steps.proofs.Keeps.{keeping_on}
 use Rattle.steps.proofs.holding.add_hold.Goals as goal
 
 pub raised-requires : goal.raised-requires
 raised-requires g c =
     let s = c.args.store.now in
-    let K = c.requires.lawful.keeping in
     record {
       lawful = omega (
         arith,
-        count_small g.S.Records.shape (state g.S.Stacked s) K.rules K.bounded c.args.r c.requires.used.0,
+        count_small g.S.Records.shape (state g.S.Stacked s) c.requires.lawful g.met.S.Records.bounded c.args.r c.requires.used.0,
         ap (λ h. h.count) c.read_head-head.ensures.value,
       );
     }
@@ -33,14 +31,8 @@ returns g c =
     let few : (head v r).holds < 1000 = omega (arith, c.if-head-ge1000.false, ap (λ h. h.holds) old) in
     let after : state g.S.Stacked c.write_head.new.self ≡ with_head v r (held_more (raised (head v r))) =
     ap (λ y. y.store) c.write_head.ensures.after ∙ ap (with_head v r) new in
-    let K = c.requires.lawful.keeping in
     record {
       answer = ap (leaving (Number c.args.answer)) after ∙ sym (hold_more_accepted v r c.args.answer few);
-      lawful = record {
-        keeping =
-            keeping_on k g.S.Stacked.width v (state g.S.Stacked c.write_head.new.self) _ _ K
-            (subst (Lawful k) (sym after) (lawful_held_more k v r K.rules c.requires.used few))
-            (ap (λ y. length y.rows) after) (ap length c.write_head.ensures.kept);
-      };
+      lawful = subst (Lawful k) (sym after) (lawful_held_more k v r c.requires.lawful c.requires.used few);
       untouched = λ e. absurd (false≢true e);
     }

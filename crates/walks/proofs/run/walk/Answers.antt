@@ -5,7 +5,7 @@ use Rattle.walks.proofs.run.walk.Goals as goal
 
 pub loop-top-init : goal.loop-top-init
 loop-top-init g c =
-    let f = first _ _ _ _ g.met.W.Walk.keeps g.W.Walk.spare _ _ _ _ c.requires.fits c.links-p.ensures.bound c.requires.few c.requires.stack in
+    let f = first _ _ _ _ g.met.W.Walk.keeps g.W.Walk.spare _ _ _ _ c.requires.fits c.links-p.ensures.bound (g.met.S.Stacked.few c.args.store.now) c.requires.stack in
     (onward (turn_begun g.met.W.Walk.keeps f c.begin-top.ensures.begun).0, refl)
 
 pub leave-requires : goal.leave-requires
@@ -59,7 +59,6 @@ begin-top-requires-then-t-ne0 g c =
     record {
       ready = visit_ready g.met.W.Walk.keeps v;
       named = visit_small g.met.W.Walk.keeps v;
-      few = omega (arith, size, v.bounds.few);
       stack = omega (arith, size, ap g.W.Walk.spare size, low v, v.bounds.wide, v.bounds.tall);
       free = free g.met.W.Walk.keeps v;
     }
@@ -96,7 +95,7 @@ loop-top-preserved g c =
 
 pub returns : goal.returns
 returns g c =
-    let f = first _ _ _ _ g.met.W.Walk.keeps g.W.Walk.spare _ _ _ _ c.requires.fits c.links-p.ensures.bound c.requires.few c.requires.stack in
+    let f = first _ _ _ _ g.met.W.Walk.keeps g.W.Walk.spare _ _ _ _ c.requires.fits c.links-p.ensures.bound (g.met.S.Stacked.few c.args.store.now) c.requires.stack in
     let b = c.begin-top.ensures.begun in
     let a = c.loop-top.invariant.0 in
     let z = end a c.loop-top-test.false in
