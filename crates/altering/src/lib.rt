@@ -25,12 +25,8 @@ pub fn link<S: Fields>(store: &mut S, r: usize, l: usize, t: usize) -> Result<us
     ensures lawful { LawfulStore S.Stacked S.Records.own store.new }
     ensures untouched { is_err result ≡ true → store.new ≡ store.old }
 {
-    if !are_held(store, r, t) {
-        return Err(Refusal::NotHeld);
-    }
-    if l >= S::fields().links {
-        return Err(Refusal::NoSuchField);
-    }
+    Refusal::NotHeld.unless(are_held(store, r, t))?;
+    Refusal::NoSuchField.unless(l < S::fields().links)?;
     Ok(relink(store, r, l, t))
 }
 
@@ -41,12 +37,8 @@ pub fn write_byte<S: Fields>(store: &mut S, r: usize, b: usize, v: u8) -> Result
     ensures lawful { LawfulStore S.Stacked S.Records.own store.new }
     ensures untouched { is_err result ≡ true → store.new ≡ store.old }
 {
-    if !is_held(store, r) {
-        return Err(Refusal::NotHeld);
-    }
-    if b >= S::fields().bytes {
-        return Err(Refusal::NoSuchField);
-    }
+    Refusal::NotHeld.unless(is_held(store, r))?;
+    Refusal::NoSuchField.unless(b < S::fields().bytes)?;
     set_byte(store, r, b, v);
     Ok(())
 }
@@ -58,9 +50,7 @@ pub fn drop_hold<S: Fields>(store: &mut S, r: usize) -> Result<usize, Refusal>
     ensures lawful { LawfulStore S.Stacked S.Records.own store.new }
     ensures untouched { is_err result ≡ true → store.new ≡ store.old }
 {
-    if !is_held(store, r) {
-        return Err(Refusal::NotHeld);
-    }
+    Refusal::NotHeld.unless(is_held(store, r))?;
     Ok(let_go(store, r))
 }
 

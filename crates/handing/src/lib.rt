@@ -25,9 +25,7 @@ pub fn make<S: Fields>(store: &mut S) -> Result<usize, Refusal>
     ensures untouched { is_err result ≡ true → store.new ≡ store.old }
 {
     let r = store.front();
-    if r == 0 {
-        return Err(Refusal::Full);
-    }
+    Refusal::Full.unless(r != 0)?;
     take_front(store, r);
     Ok(r)
 }
@@ -39,9 +37,7 @@ pub fn hold<S: Fields>(store: &mut S, r: usize) -> Result<usize, Refusal>
     ensures lawful { LawfulStore S.Stacked S.Records.own store.new }
     ensures untouched { is_err result ≡ true → store.new ≡ store.old }
 {
-    if !is_held(store, r) {
-        return Err(Refusal::NotHeld);
-    }
+    Refusal::NotHeld.unless(is_held(store, r))?;
     let holds = usize::from(store.read_head(r).holds);
     add_hold(store, r, holds + 1)
 }
@@ -53,12 +49,8 @@ pub fn load<S: Fields>(store: &mut S, r: usize, l: usize) -> Result<Option<usize
     ensures lawful { LawfulStore S.Stacked S.Records.own store.new }
     ensures untouched { is_err result ≡ true → store.new ≡ store.old }
 {
-    if !is_held(store, r) {
-        return Err(Refusal::NotHeld);
-    }
-    if l >= S::fields().links {
-        return Err(Refusal::NoSuchField);
-    }
+    Refusal::NotHeld.unless(is_held(store, r))?;
+    Refusal::NoSuchField.unless(l < S::fields().links)?;
     load_link(store, r, l)
 }
 
@@ -67,12 +59,8 @@ pub fn look<S: Fields>(store: &S, r: usize, b: usize) -> Result<u8, Refusal>
     requires lawful { LawfulStore S.Stacked S.Records.own store.now }
     ensures answer { leaving (numbered_reply result) (state S.Stacked store.now) ≡ look_call S.Records.shape (state S.Stacked store.now) r b }
 {
-    if !is_held(store, r) {
-        return Err(Refusal::NotHeld);
-    }
-    if b >= S::fields().bytes {
-        return Err(Refusal::NoSuchField);
-    }
+    Refusal::NotHeld.unless(is_held(store, r))?;
+    Refusal::NoSuchField.unless(b < S::fields().bytes)?;
     Ok(store.read_byte(r, b))
 }
 

@@ -1,5 +1,5 @@
 // Why the box says no.
-ghost use Rattle.std.specs.Prelude.{◌≡◌};
+ghost use Rattle.std.specs.Prelude.{◌≡◌, ◌↔◌, IsTrue, IsOk, IfErr};
 ghost use Rattle.model.specs.Refusals.{number_of};
 
 #[derive(Clone, Copy, PartialEq, Eq, Debug)]
@@ -26,5 +26,13 @@ impl Refusal {
         ensures value { result ≡ number_of self }
     {
         self as u8
+    }
+
+    // This refusal, unless the fact holds.
+    pub fn unless(self, fact: bool) -> Result<(), Refusal>
+        ensures passed { IsOk result ↔ IsTrue fact }
+        ensures refused { IfErr result (λ why. why ≡ self) }
+    {
+        fact.then_some(()).ok_or(self)
     }
 }

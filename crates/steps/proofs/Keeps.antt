@@ -1,21 +1,15 @@
 -- A store that a call leaves as the call's definition says is lawful.
-use Rattle.std.proofs.Common.{◌≡◌, ℕ, suc, List, [], ◌∷◌, length, sym, ap, ◌∙◌, subst, ⊎_elim, arith}
+use Rattle.std.proofs.Common.{◌≡◌, List, sym, ap, subst, arith}
 use Rattle.kinds.specs.Rows.{Shape}
 use Rattle.std.proofs.lemmas.List.Sums.{count_by-le-length}
-use Rattle.std.proofs.lemmas.Bool.{cases_eq}
 use Rattle.model.specs.Calls.{answered, started}
 use Rattle.model.specs.Lawful.{Lawful}
-use Rattle.model.specs.Release.{lower, releasing}
-use Rattle.model.specs.Releasing.{Releasing, FewGiven, counted_room}
+use Rattle.model.specs.Releasing.{Releasing, FewGiven}
 use Rattle.model.specs.State.{State}
-use Rattle.model.specs.Walk.{Progress, Task}
-use Rattle.model.specs.Walk.Task.{follow, visit}
+use Rattle.model.specs.Walk.{Task}
 use Rattle.model.specs.declared.calls.Call.{Call}
 use Rattle.model.specs.declared.calls.Reply.{Reply}
 use Rattle.model.proofs.LawfulAnswers.{lawful_answered}
-use Rattle.model.proofs.Lowering.{lower_walked}
-use Rattle.model.proofs.Releases.{release_keeps}
-use Rattle.model.proofs.Walks.{walk_keeps}
 use Rattle.steps.specs.Replies.{leaving}
 
 pub lawful_kept : (k : Shape) (s z : State) (c : Call) (r : Reply) → Lawful k s → leaving r z ≡ answered k s c → Lawful k z

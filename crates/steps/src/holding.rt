@@ -29,9 +29,7 @@ pub fn add_hold<S: Fields>(store: &mut S, r: usize, answer: usize) -> Result<usi
     ensures untouched { is_err result ≡ true → store.new ≡ store.old }
 {
     let head = store.read_head(r);
-    if head.holds >= 1000 {
-        return Err(Refusal::TooManyHolds);
-    }
+    Refusal::TooManyHolds.unless(head.holds < 1000)?;
     store.write_head(r, head.raised().held_more());
     Ok(answer)
 }

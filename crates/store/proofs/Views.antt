@@ -1,7 +1,7 @@
 -- One entry of a table read or written, by what the tables mean.
-use Rattle.std.proofs.Common.{◌≡◌, ℕ, ◌<◌, ◌≤◌, true, List, map, length, take, set, sym, refl, ap, ◌∙◌, arith}
+use Rattle.std.proofs.Common.{◌≡◌, ℕ, ◌<◌, ◌≤◌, true, List, map, take, set, sym, refl, ap, ◌∙◌, arith}
 use Rattle.std.proofs.Math.Seq.{take-set-lt}
-use Rattle.std.proofs.lemmas.List.{map-set, length-take-le, length-map}
+use Rattle.std.proofs.lemmas.List.{map-set}
 use Rattle.kinds.specs.declared.kind.Kind.{Ghosts}
 use Rattle.model.specs.Calls.{is_held}
 use Rattle.model.proofs.LawfulCalls.{held_from_test}

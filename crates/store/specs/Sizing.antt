@@ -1,5 +1,5 @@
 -- How many records there are, and room for them: what the fields of a store say of what its tables mean.
-use Rattle.std.proofs.Common.{◌≡◌, ℕ, ◌*◌, ◌≤◌, length, take, map, ◌∙◌, arith}
+use Rattle.std.proofs.Common.{◌≡◌, ◌*◌, ◌≤◌, length, take, map, ◌∙◌, arith}
 use Rattle.std.proofs.lemmas.List.{length-take-le, length-map}
 use Rattle.kinds.specs.Rows.{Row}
 use Rattle.store.specs.declared.contents.Contents.{Contents}

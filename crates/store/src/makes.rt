@@ -23,13 +23,8 @@ pub fn check_tables<K: Kind>(
     ensures value { refusal_number result ≡ table_test (length records.now) (length heads.now) (length list.now) (length work.now) }
 {
     let n = records.len();
-    if n == 0 || n > 4095 {
-        return Err(Refusal::NoRecords);
-    }
-    if heads.len() != n || list.len() != n || work.len() < 2 * n {
-        return Err(Refusal::WrongLengths);
-    }
-    Ok(())
+    Refusal::NoRecords.unless(n != 0 && n <= 4095)?;
+    Refusal::WrongLengths.unless(heads.len() == n && list.len() == n && work.len() >= 2 * n)
 }
 
 // The same by number, as the rules of the box say it: 0 where a store can be made over the tables, and else the number of

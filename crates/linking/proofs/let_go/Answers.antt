@@ -1,6 +1,5 @@
-use Rattle.std.proofs.Common.{◌≡◌, [], ◌∷◌, length, sym, refl, ap, ◌∙◌, subst, arith}
+use Rattle.std.proofs.Common.{◌≡◌, [], ◌∷◌, sym, refl, ap, ◌∙◌, subst}
 use Rattle.model.specs.Calls.{started, given_ups, drop_answer}
-use Rattle.model.specs.Lawful.{Lawful}
 use Rattle.model.specs.Release.{lower, turn}
 use Rattle.model.specs.Releasing.{Releasing, FewGiven}
 use Rattle.model.specs.State.{head, with_head}
@@ -10,7 +9,6 @@ use Rattle.model.specs.declared.calls.Call.TheVariants.{Drop}
 use Rattle.model.specs.declared.calls.Reply.TheVariants.{Number}
 use Rattle.model.proofs.Accepted.{asked_yes}
 use Rattle.model.proofs.LawfulCalls.{held_from_test}
-use Rattle.model.proofs.Lowering.{lawful_lower}
 use Rattle.model.proofs.Owing.{owing_drop}
 use Rattle.steps.specs.Keeping.{state}
 use Rattle.steps.specs.Replies.{leaving}

@@ -3,7 +3,6 @@ use Rattle.std.proofs.lemmas.List.{length-set}
 use Rattle.std.proofs.lemmas.Bool.{cond_both, lt-ltb}
 use Rattle.kinds.specs.Rows.{with_link}
 use Rattle.model.specs.Calls.{started, given_ups, raised_at, relinked, link_answer}
-use Rattle.model.specs.Lawful.{Lawful}
 use Rattle.model.specs.Release.{moved, lower}
 use Rattle.model.specs.Releasing.{Releasing, FewGiven}
 use Rattle.model.specs.State.{State, Within, head, row, with_head, with_row}
@@ -14,7 +13,6 @@ use Rattle.model.specs.declared.calls.Reply.TheVariants.{Number}
 use Rattle.model.proofs.Accepted.{asked_yes}
 use Rattle.model.proofs.LawfulAnswers.{target_from_test, owing_relinked}
 use Rattle.model.proofs.LawfulCalls.{count_small}
-use Rattle.model.proofs.Lowering.{lawful_lower}
 use Rattle.steps.specs.Keeping.{state}
 use Rattle.steps.specs.Replies.{leaving}
 use Rattle.steps.proofs.Keeps.{lawful_kept, few_start}

@@ -1,4 +1,4 @@
-use Rattle.std.proofs.Common.{◌≡◌, [], ◌∷◌, length, sym, ap, subst, arith}
+use Rattle.std.proofs.Common.{◌≡◌, [], ◌∷◌, sym, subst, arith}
 use Rattle.model.specs.Headers.{unlisted}
 use Rattle.model.specs.Colouring.{Gathering}
 use Rattle.model.specs.Release.{at, turn}

@@ -1,4 +1,4 @@
-use Rattle.std.proofs.Common.{◌≡◌, ◌+◌, length, drop, fold, sym, refl, ap, ◌∙◌, subst, arith}
+use Rattle.std.proofs.Common.{◌≡◌, ◌+◌, drop, fold, sym, refl, ap, ◌∙◌, subst, arith}
 use Rattle.model.specs.Collected.{AfterScan}
 use Rattle.model.specs.Collection.{scan_one, scanned}
 use Rattle.model.proofs.ScanLaws.{scan_begins, scan_turn, scan_law}

@@ -1,4 +1,4 @@
-use Rattle.std.proofs.Common.{[], ◌∷◌, length, sym, ap, subst, arith}
+use Rattle.std.proofs.Common.{[], ◌∷◌, sym, subst, arith}
 use Rattle.model.specs.Releasing.{Releasing, FewGiven}
 use Rattle.model.specs.Walk.Task.{visit}
 use Rattle.model.proofs.Unharmed.{release_keeps_few}

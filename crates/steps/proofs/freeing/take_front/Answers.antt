@@ -1,4 +1,4 @@
-use Rattle.std.proofs.Common.{◌≡◌, length, sym, ap, ◌∙◌, subst, arith}
+use Rattle.std.proofs.Common.{◌≡◌, sym, ap, ◌∙◌, subst, arith}
 use Rattle.model.specs.Calls.{taken}
 use Rattle.model.specs.State.{Within, with_head, with_front}
 use Rattle.model.specs.Headers.{made_header}

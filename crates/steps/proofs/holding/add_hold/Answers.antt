@@ -1,4 +1,4 @@
-use Rattle.std.proofs.Common.{◌≡◌, ◌<◌, length, sym, ap, ◌∙◌, subst, arith}
+use Rattle.std.proofs.Common.{rules, ◌≡◌, ◌<◌, sym, ap, ◌∙◌, subst, arith}
 use Rattle.std.proofs.lemmas.Bool.{false≢true}
 use Rattle.model.specs.Lawful.{Lawful}
 use Rattle.model.specs.State.{head, with_head}
@@ -28,7 +28,8 @@ returns g c =
     let r = c.args.r in
     let old = c.read_head-head.ensures.value in
     let new = c.held_more.ensures.value ∙ ap held_more (c.raised.ensures.value ∙ ap raised old) in
-    let few : (head v r).holds < 1000 = omega (arith, c.if-head-ge1000.false, ap (λ h. h.holds) old) in
+    let below : c.read_head-head.result.holds < 1000 = search rules in
+    let few : (head v r).holds < 1000 = omega (arith, below, ap (λ h. h.holds) old) in
     let after : state g.S.Stacked c.write_head.new.self ≡ with_head v r (held_more (raised (head v r))) =
     ap (λ y. y.store) c.write_head.ensures.after ∙ ap (with_head v r) new in
     record {
