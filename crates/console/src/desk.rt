@@ -1,4 +1,4 @@
-// The line that is being typed.
+// The line that is being typed. The store is not in here: it is the host's, which may call it between two bytes.
 use keyboard::Line;
 
 #[derive(Drop)]

@@ -24,7 +24,8 @@ pub trait Kind: Copy {
     ghost row: { Self → Row };
 
     // The constants, with the promise that they are the shape's: to code over every kind a constant alone says nothing. Each
-    // kind writes the body: one here would need a law that the constants are the shape's, which asks more of a kind.
+    // kind writes the body: with one here each would write every constant twice more, as a ghost and in a law that ties it to
+    // the shape.
     fn numbers() -> Numbers
         ensures links { result.links ≡ shape.links }
         ensures bytes { result.bytes ≡ shape.bytes }

@@ -1,4 +1,5 @@
-// The changes of one head. Each is one step of a call or of a collection, and leaves every other part as it was. The clause
+// The changes of one head. Each is one step of a call or of a collection, and leaves every other part as it was; opposite ones
+// are two functions, since one for both would have to be told which way. The clause
 // `lawful` says when what it leaves is a head: no more holds than its count, and each number within its width.
 ghost use Rattle.std.specs.Prelude.{◌<◌, ◌≡◌};
 ghost use Rattle.model.specs.Headers.{more_one, unlisted as unlisted_header, painted as painted_header, less_one, suspected as suspected_header, header, raised as raised_header, held_more, held_less};

@@ -1,5 +1,5 @@
-// Colours told apart. Each question has a function, since the rules ask it by a definition of its own (`is_gray`), which the
-// derived `==` alone would not name.
+// Colours told apart. Each question is a function, since its promise (`is_gray`) is the word by which the rules of the walks ask
+// it; its body is one comparison.
 ghost use Rattle.std.specs.Prelude.{◌≡◌};
 ghost use Rattle.model.specs.Headers.{is_black as says_black, is_gray as says_gray, is_white as says_white, is_purple as says_purple};
 

@@ -21,7 +21,7 @@ pub enum Refusal {
 }
 
 impl Refusal {
-    // The number by which the box says it: its discriminant.
+    // The number by which the box says it: its discriminant. `From` would only say the same under another name.
     pub fn number(self) -> u8
         ensures value { result ≡ number_of self }
     {

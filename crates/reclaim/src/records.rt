@@ -11,7 +11,8 @@ use model::heads::{Colour, Head};
 use walks::stacked::Stacked;
 
 // A store whose records can be altered one part at a time. What is not named stays: the stack, and the table of the
-// candidate list.
+// candidate list (clauses `kept` and `aside`, which each function promises for itself). That `r` names a record of the store
+// (`named`) is about the two of them, and no type of a number can say it.
 pub trait Records: Stacked {
     // The shape of its records.
     ghost shape: { Shape };

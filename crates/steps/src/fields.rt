@@ -40,7 +40,8 @@ pub trait Fields: Records {
         ensures after { Self.Stacked.progress self.new ≡ moved (Self.Stacked.progress self.old) (with_row (Self.Stacked.progress self.old).store r (with_byte (row (Self.Stacked.progress self.old).store r) b v)) }
         ensures kept { Self.Stacked.stack self.new ≡ Self.Stacked.stack self.old };
 
-    // The first free record; 0 where there is none.
+    // The first free record; 0 where there is none, as the chain itself says it: an Option would be made here and unmade at the
+    // next link of the chain.
     fn front(&self) -> usize
         ensures value { result ≡ (Self.Stacked.progress self.now).store.front };
 

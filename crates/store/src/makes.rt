@@ -13,7 +13,8 @@ use kinds::kind::Kind;
 use model::heads::Head;
 use model::refusals::Refusal;
 
-// Whether a store can be made over the tables, and else why not.
+// Whether a store can be made over the tables, and else why not. It takes them apart and shared, since a host may ask before it
+// lends them.
 pub fn check_tables<K: Kind>(
     records: &[K],
     heads: &[Head],

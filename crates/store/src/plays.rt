@@ -20,7 +20,8 @@ pub fn play<'a, K: Kind>(
     ensures untouched { drop (length calls.now) replies.new ≡ drop (length calls.now) replies.old }
 {
     let mut store = Store::new(tables);
-    // by number: behind `zip` with `replies.iter_mut()`, in either order, a proof knows no more of the replies than how many
+    // by number: behind `zip` with `replies.iter_mut()`, in either order, a proof knows no more of the replies than how many, and
+    // `enumerate` would still index the calls
     for i in 0..calls.len().min(replies.len()) {
         replies[i] = store.perform(calls[i]);
     }
