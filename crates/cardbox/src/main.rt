@@ -17,8 +17,8 @@ fn serve<K: Kind>(
     typed: &[u8],
     output: &mut impl Write,
 ) -> io::Result<()> {
-    for byte in typed {
-        if let Some(answer) = desk.key(store, *byte) {
+    for &byte in typed {
+        if let Some(answer) = desk.key(store, byte) {
             output.write_all(answer.bytes())?;
         }
     }

@@ -12,10 +12,7 @@ use model::calls::Call;
 fn alone<T: Copy>(value: T, mut words: Words<'_>) -> Option<T>
     ensures value { result ≡ value_alone value (left words.entry) }
 {
-    match words.next() {
-        None => Some(value),
-        Some(_) => None,
-    }
+    words.next().is_none().then_some(value)
 }
 
 // N numbers and no word more. A loop, since of a closure that takes from `words`, as `array::try_from_fn` wants, nothing would be

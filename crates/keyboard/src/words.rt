@@ -17,12 +17,12 @@ pub(crate) enum Word<'a> {
     Digits(&'a [u8]),
 }
 
-impl<'a> Word<'a> {
+impl<'a> From<&'a [u8]> for Word<'a> {
+    ghost from_gives = { λ bytes word.
+        (text_of word ≡ bytes.now) × (is_digits word ≡ is_ascii_digit (slice_index bytes.now 0)) };
+
     // The word with these bytes; its first byte says which kind it is.
-    fn of(bytes: &'a [u8]) -> Word<'a>
-        ensures text { text_of result ≡ bytes.now }
-        ensures kind { is_digits result ≡ is_ascii_digit (slice_index bytes.now 0) }
-    {
+    fn from(bytes: &'a [u8]) -> Word<'a> {
         match bytes {
             [b'0'..=b'9', ..] => Word::Digits(bytes),
             _ => Word::Command(bytes),
@@ -49,7 +49,7 @@ impl<'a> Iterator for Words<'a> {
         let line = self.rest?;
         let (first, rest) = split(line);
         self.rest = rest;
-        Some(Word::of(first))
+        Some(first.into())
     }
 }
 

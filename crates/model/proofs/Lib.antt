@@ -1,3 +1,4 @@
+pub mod Printing
 pub mod Places
 pub mod LiveCounting
 pub mod Paths

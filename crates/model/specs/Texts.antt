@@ -1,5 +1,5 @@
--- How a call and a reply are printed.
-use Rattle.std.specs.Prelude.{ℕ, List, ◌++◌, codes, decimal}
+-- How a call, a reply and a list of both are printed.
+use Rattle.std.specs.Prelude.{ℕ, List, ◌++◌, zip, flat_map, codes, decimal}
 use Rattle.model.specs.Refusals.{number_of}
 use Rattle.model.specs.declared.calls.Call.{Call}
 use Rattle.model.specs.declared.calls.Call.TheVariants.{Make, Hold, Load, Link, Byte, Look, Drop, Collect, Tally}
@@ -24,3 +24,11 @@ reply_text (Number n) = decimal n
 reply_text Nothing = codes "none"
 reply_text Done = codes "done"
 reply_text (Refused why) = codes "refused " ++ decimal (number_of why)
+
+-- a line with a call and its reply
+abbrev pub exchange : Call × Reply → List ℕ
+exchange e = call_text e.0 ++ (codes " -> " ++ (reply_text e.1 ++ codes "\n"))
+
+-- a line for each call with its reply, as many as both lists have
+abbrev pub transcript : List Call → List Reply → List ℕ
+transcript calls replies = flat_map exchange (zip calls replies)

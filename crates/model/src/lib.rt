@@ -9,3 +9,4 @@ pub mod heads;
 pub mod refusals;
 pub mod replies;
 pub mod taken;
+pub mod transcripts;

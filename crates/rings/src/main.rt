@@ -6,19 +6,12 @@ use kinds::kind::Kind;
 use kinds::pair::Pair;
 use model::calls::{Call, Reply};
 use model::heads::Head;
+use model::transcripts::Transcript;
 use std::io;
 use store::plays::play;
 use store::tables::Tables;
 
 mod sessions;
-
-// Each call with its reply. `worked` has the same loop: a library's function could promise nothing of what it prints.
-fn print_all(rt: &impl Print, calls: &[Call], replies: &[Reply]) -> io::Result<()> {
-    for (call, reply) in calls.iter().zip(replies) {
-        println!(rt; "{call} -> {reply}")?;
-    }
-    Ok(())
-}
 
 // Plays the calls on a new store of the records, and prints each with its reply.
 fn session<K: Kind>(
@@ -40,61 +33,31 @@ fn session<K: Kind>(
     };
     let _store = play(tables, calls, &mut replies);
     println!(rt; "{title}")?;
-    print_all(rt, calls, &replies)
+    let transcript = Transcript {
+        calls,
+        replies: &replies,
+    };
+    print!(rt; "{transcript}")
 }
 
-// Every session, on the records of one kind.
+// Every session, on the records of one kind: its title, how many records it has, and its calls.
 fn all_sessions<K: Kind>(rt: &impl Print, records: &mut [K; 200]) -> io::Result<()> {
-    session(rt, "most calls", &mut records[..3], &sessions::most_calls())?;
-    session(
-        rt,
-        "one make too many",
-        &mut records[..3],
-        &sessions::makes(),
-    )?;
-    session(
-        rt,
-        "a lone record",
-        &mut records[..3],
-        &sessions::lone_record(),
-    )?;
-    session(
-        rt,
-        "a ring of one",
-        &mut records[..3],
-        &sessions::ring_of_one(),
-    )?;
-    session(rt, "a ring of two", records, &sessions::ring_of_two())?;
-    session(
-        rt,
-        "a held ring",
-        &mut records[..3],
-        &sessions::held_ring(1, 2),
-    )?;
-    session(
-        rt,
-        "a held ring, 2 first",
-        &mut records[..3],
-        &sessions::held_ring(2, 1),
-    )?;
-    session(
-        rt,
-        "a spent record",
-        &mut records[..2],
-        &sessions::spent_record(),
-    )?;
-    session(
-        rt,
-        "a chain released",
-        &mut records[..2],
-        &sessions::released_chain(),
-    )?;
-    session(
-        rt,
-        "the same link twice",
-        &mut records[..2],
-        &sessions::same_link(),
-    )
+    let sessions: [(&str, usize, &[Call]); 10] = [
+        ("most calls", 3, &sessions::most_calls()),
+        ("one make too many", 3, &sessions::makes()),
+        ("a lone record", 3, &sessions::lone_record()),
+        ("a ring of one", 3, &sessions::ring_of_one()),
+        ("a ring of two", 200, &sessions::ring_of_two()),
+        ("a held ring", 3, &sessions::held_ring(1, 2)),
+        ("a held ring, 2 first", 3, &sessions::held_ring(2, 1)),
+        ("a spent record", 2, &sessions::spent_record()),
+        ("a chain released", 2, &sessions::released_chain()),
+        ("the same link twice", 2, &sessions::same_link()),
+    ];
+    for (title, n, calls) in sessions {
+        session(rt, title, &mut records[..n], calls)?;
+    }
+    Ok(())
 }
 
 fn main(rt: HostRuntime) -> io::Result<()> {

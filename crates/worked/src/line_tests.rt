@@ -3,15 +3,6 @@ use keyboard::{Line, answer, command};
 use model::calls::{Call, Reply};
 use model::refusals::Refusal;
 
-// The last number of a `hold` or `byte` line; 1 for any other line.
-fn last_number(line: &[u8]) -> usize {
-    match command(line) {
-        Some(Call::Hold(record)) => record,
-        Some(Call::Byte(_, _, value)) => usize::from(value),
-        _ => 1,
-    }
-}
-
 fn answers(reply: Reply, line: &[u8]) -> bool {
     let written = answer(reply);
     written.bytes() == line
@@ -19,11 +10,11 @@ fn answers(reply: Reply, line: &[u8]) -> bool {
 
 #[test]
 fn edges_of_numbers(rt: HostRuntime) {
-    assert_eq!(rt; last_number(b"hold 99999"), 99999);
-    assert_eq!(rt; last_number(b"hold 100000"), 1);
-    assert_eq!(rt; last_number(b"byte 1 0 255"), 255);
-    assert_eq!(rt; last_number(b"byte 1 0 256"), 1);
-    assert_eq!(rt; last_number(b""), 1);
+    assert_eq!(rt; command(b"hold 99999"), Some(Call::Hold(99999)));
+    assert_eq!(rt; command(b"hold 100000"), None);
+    assert_eq!(rt; command(b"byte 1 0 255"), Some(Call::Byte(1, 0, 255)));
+    assert_eq!(rt; command(b"byte 1 0 256"), None);
+    assert_eq!(rt; command(b""), None);
 }
 
 #[test]

@@ -6,17 +6,10 @@ use kinds::kind::Kind;
 use kinds::pair::Pair;
 use model::calls::{Call, Reply};
 use model::heads::Head;
+use model::transcripts::Transcript;
 use std::io;
 use store::plays::play;
 use store::tables::Tables;
-
-// Each call with its reply. `rings` has the same loop: a library's function could promise nothing of what it prints.
-fn print_all(rt: &impl Print, calls: &[Call], replies: &[Reply]) -> io::Result<()> {
-    for (call, reply) in calls.iter().zip(replies) {
-        println!(rt; "{call} -> {reply}")?;
-    }
-    Ok(())
-}
 
 // Makes until no record of three is free, holds, marks and reads; then ties records to each other
 // and to themselves, and lets go until some are given up and one stays spent.
@@ -68,7 +61,11 @@ fn session<K: Kind>(rt: &impl Print, records: &mut [K]) -> io::Result<()> {
         work: &mut work,
     };
     let _store = play(tables, &calls, &mut replies);
-    print_all(rt, &calls, &replies)
+    let transcript = Transcript {
+        calls: &calls,
+        replies: &replies,
+    };
+    print!(rt; "{transcript}")
 }
 
 fn main(rt: HostRuntime) -> io::Result<()> {

@@ -32,7 +32,7 @@ fn numbered(words: &str, n: usize) -> Answer
     Answer { line }
 }
 
-// A line of a text, with its line feed.
+// A line of a text, with its line feed. It is pushed, and not written by `write!`, for the reason that `numbered` gives.
 fn text(words: &str) -> Answer
     requires { length words.now ≤ 8 }
     ensures value { line_of result ≡ words.now }
