@@ -15,7 +15,8 @@ pub(crate) enum Form {
 }
 
 impl Form {
-    // The form that has this command word.
+    // The form that has this command word. An Option: there is no more to say of a word that has none, so `TryFrom` would only
+    // add an error type.
     pub(crate) fn named(word: &[u8]) -> Option<Form>
         ensures value { MatchOption result (Nameless word.now) (λ f. Names word.now f) }
     {

@@ -4,7 +4,7 @@ use model::calls::Call;
 
 // Makes until no record of three is free, holds, marks and reads; then ties records to each other
 // and to themselves, and lets go until some are given up and one stays spent; then gets back that one
-// and a ring.
+// and a ring. The first 29 calls are those of `worked`: that program stays as it is, and the two share no library of sessions.
 pub(crate) fn most_calls() -> [Call; 36] {
     [
         Call::Tally,
