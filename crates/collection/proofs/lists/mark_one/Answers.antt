@@ -7,15 +7,6 @@ use Rattle.collection.proofs.Serves.{mark_purple}
 use Rattle.collection.proofs.Turns.{marking_steady}
 use Rattle.collection.proofs.lists.mark_one.Goals as goal
 
-pub walk-requires : goal.walk-requires
-walk-requires g c =
-    let k = g.S.Records.shape in
-    let I = c.requires.serving.walks in
-    record {
-      fits = I;
-      stack = omega (arith, g.met.S.Stacked.room c.args.store.now);
-    }
-
 pub push-requires : goal.push-requires
 push-requires g c =
     let k = g.S.Records.shape in
