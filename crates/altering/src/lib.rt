@@ -18,7 +18,8 @@ use steps::fields::Fields;
 use steps::holding::is_held;
 use walks::stacked::Stacked;
 
-// Sets link `l` of a held record to a held record, or to 0. Answers the give-ups.
+// Sets link `l` of a held record to a held record, or to 0. Answers the give-ups. The tests are those of `load`, a line each; what
+// is done then is not.
 pub fn link<S: Fields>(store: &mut S, r: usize, l: usize, t: usize) -> Result<usize, Refusal>
     requires lawful { LawfulStore S.Stacked S.Records.own store.old }
     ensures answer { leaving (numbered_reply result) (state S.Stacked store.new) ≡ link_call S.Records.shape (state S.Stacked store.old) r l t }

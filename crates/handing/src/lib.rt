@@ -42,7 +42,8 @@ pub fn hold<S: Fields>(store: &mut S, r: usize) -> Result<usize, Refusal>
     add_hold(store, r, holds + 1)
 }
 
-// Reads a link of a held record. The record that it names gets a hold; an empty link takes none.
+// Reads a link of a held record. The record that it names gets a hold; an empty link takes none. The tests are those of `link`, a
+// line each; what is done then is not.
 pub fn load<S: Fields>(store: &mut S, r: usize, l: usize) -> Result<Option<usize>, Refusal>
     requires lawful { LawfulStore S.Stacked S.Records.own store.old }
     ensures answer { leaving (loaded_reply result) (state S.Stacked store.new) ≡ load_call S.Records.shape (state S.Stacked store.old) r l }

@@ -1,5 +1,5 @@
 // The cell of the scripts: two links and a byte in one number of 32 bits.
-// Bits 0 to 11 hold link 0, bits 12 to 23 link 1, and bits 24 to 31 the byte; every number is a cell.
+// Bits 0 to 11 hold link 0, bits 12 to 23 link 1, and bits 24 to 31 the byte, as the rules fix it; every number is a cell.
 // A write packs the cell anew from what it keeps and what it is given, so that no bit of a neighbour can be lost.
 ghost use Rattle.std.specs.Prelude.{◌≡◌, ◌^◌, ◌<◌, ◌≤◌, [], ◌∷◌};
 ghost use Rattle.kinds.specs.Words.{unpacked};

@@ -13,7 +13,8 @@ use store::tables::Tables;
 
 mod sessions;
 
-// Plays the calls on a new store of the records, and prints each with its reply.
+// Plays the calls on a new store of the records, and prints each with its reply. `worked` has a session and a main of its own: that
+// program stays as it is.
 fn session<K: Kind>(
     rt: &impl Print,
     title: &str,

@@ -29,7 +29,8 @@ pub fn take_front<S: Fields>(store: &mut S, r: usize)
     store.set_front(usize::from(next));
 }
 
-// Lowers record `t`, to which one reference is still counted that is gone; 0 names none.
+// Lowers record `t`, to which one reference is still counted that is gone; 0 names none, as in the link that it was read from. How
+// few were given up by then (`few`) is about this moment of a call.
 pub fn lower<S: Fields>(store: &mut S, t: usize)
     requires owing { Releasing S.Records.shape (S.Stacked.progress store.old) (to_follow t ∷ []) }
     requires few { FewGiven (S.Stacked.progress store.old) }
@@ -43,7 +44,7 @@ pub fn lower<S: Fields>(store: &mut S, t: usize)
     walk::<S, Release>(store, t, 0);
 }
 
-// Raises record `t`; 0 names none.
+// Raises record `t`; 0 names none, as in the link that is written.
 pub fn raise<S: Fields>(store: &mut S, t: usize)
     requires within { t ≤ length (S.Stacked.progress store.old).store.rows }
     requires few { (head (S.Stacked.progress store.old).store t).count < 4294967295 }

@@ -3,12 +3,15 @@ use Rattle.std.proofs.Common.{◌≡◌, ℕ, ◌<◌, ◌≤◌, true, List, ma
 use Rattle.std.proofs.Math.Seq.{take-set-lt}
 use Rattle.std.proofs.lemmas.List.{map-set}
 use Rattle.kinds.specs.declared.kind.Kind.{Ghosts}
-use Rattle.model.specs.Calls.{is_held}
+use Rattle.model.specs.Calls.{answered, is_held}
+use Rattle.model.specs.declared.calls.Call.{Call}
+use Rattle.model.specs.declared.calls.Reply.{Reply}
 use Rattle.model.proofs.LawfulCalls.{held_from_test}
 use Rattle.steps.specs.Keeping.{LawfulStore as LawfulOf}
 use Rattle.store.proofs.Evidence.{lawful_shown}
 use Rattle.store.specs.Sizing.{size_is}
 use Rattle.store.specs.Meaning.{meaning, stacked, records, Roomy}
+use Rattle.steps.specs.Replies.{leaving}
 use Rattle.store.specs.View.{view, LawfulStore, Same}
 use Rattle.store.specs.declared.contents.Contents.{Contents}
 use Rattle.store.specs.declared.table.Store.{Store}
@@ -31,6 +34,12 @@ roomy s = record {
 pub lawful_store : {K : Type 0} (g : Ghosts K) (s : Store K g) → LawfulStore g s
 lawful_store g s = record { room = roomy s.contents; rules = lawful_shown g.shape (view g s) s.lawful }
 
+-- a store that a call leaves is lawful, since it is a store
+pub lawful_leaving :
+    {K : Type 0} (g : Ghosts K) (before after : Store K g) (c : Call) (r : Reply) → LawfulStore g before → Roomy after.contents →
+    leaving r (view g after) ≡ answered g.shape (view g before) c → LawfulStore g after
+lawful_leaving g before after c r law room e = lawful_store g after
+
 -- what the calls over any store ask for
 pub lawful_for : {K : Type 0} (g : Ghosts K) (s : Store K g) → LawfulOf (stacked g) (records g) s.contents
 lawful_for g s = lawful_shown g.shape (view g s) s.lawful
@@ -51,3 +60,21 @@ same_store s = record {
   listed_same = refl;
   front_same = refl;
 }
+
+-- the give-ups of a call are counted from 0 on, and nothing else is altered
+pub roomy_reset :
+    {K : Type 0} (s : Contents K) (m : ℕ) → Roomy s →
+    Roomy (record {
+      tables = s.tables;
+      n = s.n;
+      listed = s.listed;
+      front = s.front;
+      given = m;
+      few = s.few;
+      records_room = s.records_room;
+      heads_room = s.heads_room;
+      list_room = s.list_room;
+      work_room = s.work_room;
+      listed_room = s.listed_room;
+    })
+roomy_reset s m room = roomy _

@@ -1,4 +1,5 @@
-// Reading and writing one head or one record, by what the tables mean.
+// Reading and writing one head or one record, by what the tables mean. That `r` is a record of the store (`within`) is about the
+// two of them, and no type of a number can say it.
 ghost use Rattle.std.specs.Prelude.{◌≡◌, ◌<◌, ◌≤◌};
 ghost use Rattle.model.specs.Release.{moved};
 ghost use Rattle.model.specs.State.{head, row, with_head, with_row};

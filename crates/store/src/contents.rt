@@ -13,7 +13,7 @@ pub struct Contents<'a, K> {
     // how many records are on the candidate list, the first entries of its table. It stands beside the table, which is lent
     // and cannot grow
     pub(crate) listed: usize,
-    // the first free record; 0 where there is none
+    // the first free record; 0 where there is none, as the chain itself says it
     pub(crate) front: usize,
     // how many records the call under way has given up
     pub(crate) given: usize,

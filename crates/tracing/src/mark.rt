@@ -9,6 +9,7 @@ use reclaim::records::{Records, alter_head, repaint};
 use walks::stacked::Stacked;
 use walks::steps::Walk;
 
+// Not one with `Restore`: each step is a line, and the rule and the laws are others.
 pub struct Mark;
 
 impl<S: Records> Walk<S> for Mark {

@@ -9,6 +9,7 @@ use reclaim::records::{Records, alter_head, repaint};
 use walks::stacked::Stacked;
 use walks::steps::Walk;
 
+// Not one with `Mark`: each step is a line, and the rule and the laws are others.
 pub struct Restore;
 
 impl<S: Records> Walk<S> for Restore {

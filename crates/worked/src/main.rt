@@ -47,7 +47,8 @@ fn calls() -> [Call; 29] {
     ]
 }
 
-// Plays the calls over three records of the kind and prints each with its reply.
+// Plays the calls over three records of the kind and prints each with its reply. `rings` has a session and a main of its own:
+// this program stays as it is.
 fn session<K: Kind>(rt: &impl Print, records: &mut [K]) -> io::Result<()> {
     let calls = calls();
     let mut replies = [Reply::Done; 29];
