@@ -1,7 +1,8 @@
 // Mark, scan and gather, each through the candidate list in order, and the collection. Each goes by the number of the entry:
 // the list stands in the store that its records alter, so no iterator can hold it meanwhile. The three loops share their proof
 // (`InTurn`) and differ in what is done at a record; one loop that is passed that, as a function or by a trait, would have to be
-// told as well what holds between two records, and would be longer than they are.
+// told as well what holds between two records, and would be longer than they are. That the stack keeps its length (`wide`) is a
+// promise of each function; how few were given up by then (`few`) is about this moment of a call.
 ghost use Rattle.std.specs.Prelude.{◌≡◌, ◌+◌, ◌*◌, ◌≤◌, length, drop};
 ghost use Rattle.collection.specs.Serving.{Marks, Gathers};
 ghost use Rattle.model.specs.Collected.{AfterMark, AfterScan, AfterCollection};

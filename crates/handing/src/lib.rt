@@ -1,6 +1,6 @@
 // The calls that hand records out or only read: make, hold, load, look and tally. Each requires only that the store is
 // lawful, answers what its definition says and leaves the store that it says; a refusal leaves everything as it was, every
-// table to its end.
+// table to its end (`untouched`): that is a promise of each of them, and no fact of one value.
 #![tactic(auto)]
 
 ghost use Rattle.std.specs.Prelude.{◌≡◌, true, is_err};
