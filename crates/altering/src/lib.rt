@@ -1,6 +1,6 @@
 // The calls that alter records or give them back: link, byte write, drop and collect. Each requires only that the store is
 // lawful, answers what its definition says and leaves the store that it says; a refusal leaves everything as it was, every
-// table to its end.
+// table to its end. That the store is lawful is a clause of each, since a bound has no invariant.
 #![tactic(auto)]
 
 ghost use Rattle.std.specs.Prelude.{◌≡◌, true, is_err};

@@ -1,6 +1,7 @@
 // The calls that hand records out or only read: make, hold, load, look and tally. Each requires only that the store is
 // lawful, answers what its definition says and leaves the store that it says; a refusal leaves everything as it was, every
-// table to its end (`untouched`): that is a promise of each of them, and no fact of one value.
+// table to its end (`untouched`): that is a promise of each of them, and no fact of one value. That the store is lawful is a clause
+// of each, since a bound has no invariant.
 #![tactic(auto)]
 
 ghost use Rattle.std.specs.Prelude.{◌≡◌, true, is_err};

@@ -1,5 +1,6 @@
 // What load, link, drop and a byte write do once their tests are passed. That a record is held and that a field is one of the
-// kind's (`held`, `field`) is about two values, and no type of a number can say it.
+// kind's (`held`, `field`) is about two values, and no type of a number can say it. That the store is lawful is a clause of each, since
+// a bound has no invariant.
 #![tactic(auto)]
 
 ghost use Rattle.std.specs.Prelude.{◌≡◌, ◌<◌, true, ◌&&◌, ◌||◌, is_err, ◌==◌};

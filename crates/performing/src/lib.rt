@@ -1,4 +1,4 @@
-// One call in, one reply out, over any store.
+// One call in, one reply out, over any store. That it is lawful is a clause, since a bound has no invariant.
 #![tactic(auto)]
 
 ghost use Rattle.std.specs.Prelude.{◌≡◌, true};

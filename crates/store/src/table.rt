@@ -6,7 +6,8 @@ use crate::contents::Contents;
 use kinds::kind::Kind;
 
 // A store of N records of one kind, over tables that the host lends. It is lawful between calls: a store that is not cannot
-// be made, and no call can leave one.
+// be made, and no call can leave one. That a refusal leaves it as it was (`untouched`) is a promise of each call, and no fact of one
+// store.
 #[derive(Drop)]
 pub struct Store<'a, K: Kind> {
     pub(crate) contents: Contents<'a, K>,
