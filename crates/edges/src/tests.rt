@@ -6,7 +6,10 @@ use kinds::pair::Pair;
 use model::calls::{Call, Reply};
 use model::heads::Head;
 use model::refusals::Refusal;
+use reclaim::records::Records;
+use steps::fields::Fields;
 use store::plays::play;
+use store::table::Store;
 use store::tables::Tables;
 
 // The replies to the calls on a new store of N pairs with W numbers in its work table. The tests of `worked` have the same: a
@@ -85,4 +88,52 @@ fn survivors(rt: HostRuntime) {
         [replies[13], replies[14]],
         [Reply::Number(255), Reply::Number(9)]
     );
+}
+
+// How many references a record has, as its head counts them; None where the store has no such record.
+fn counted<K: Kind>(store: &Store<'_, K>, r: usize) -> Option<u32> {
+    if r == 0 || r > store.contents.size() {
+        return None;
+    }
+    Some(store.contents.read_head(r).count)
+}
+
+// One more hold, by the call below the one of the store.
+#[tactic(auto, using(store::proofs::Evidence::lawful_shown))]
+fn hold_below<K: Kind>(store: &mut Store<'_, K>, r: usize) -> Result<usize, Refusal> {
+    handing::hold(&mut store.contents, r)
+}
+
+// How many records are in use when the store is let go.
+fn used_at_the_end<K: Kind>(store: Store<'_, K>) -> usize {
+    store.tally()
+}
+
+// A host reads what a store holds, calls what lies below its calls, and hands the store over for good.
+#[test]
+fn handed_over(rt: HostRuntime) {
+    let mut records = [Pair::blank(); 2];
+    let mut heads = [Head::free(0); 2];
+    let mut list = [0u16; 2];
+    let mut work = [0u32; 4];
+    let mut store = Store::new(Tables {
+        records: &mut records,
+        heads: &mut heads,
+        list: &mut list,
+        work: &mut work,
+    });
+    let replies = [Call::Make, Call::Make, Call::Link(1, 0, 2), Call::Drop(2)].map(
+        |call| store.perform(call),
+    );
+    assert_eq!(rt; replies, [1, 2, 0, 0].map(Reply::Number));
+    // 1 has its hold, 2 the link, and waits
+    assert_eq!(rt;
+        [counted(&store, 1), counted(&store, 2), counted(&store, 3)],
+        [Some(1), Some(1), None]
+    );
+    assert_eq!(rt; store.contents.listed(), 1);
+    assert_eq!(rt; hold_below(&mut store, 1), Ok(2));
+    assert_eq!(rt; hold_below(&mut store, 2), Err(Refusal::NotHeld));
+    assert_eq!(rt; counted(&store, 1), Some(2));
+    assert_eq!(rt; used_at_the_end(store), 2);
 }

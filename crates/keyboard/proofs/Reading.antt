@@ -1,38 +1,46 @@
 -- Reading a numeral digit by digit. Assumes nothing.
-use Rattle.std.proofs.Common.{◌≡◌, ℕ, ◌^◌, ◌<◌, ◌≤◌, true, List, [], ◌∷◌, length, get_or, Some, decimal, Result, IsUtf8, sym, refl, ap, ◌∙◌, ⊎_elim, mul_comm, arith}
+use Rattle.std.proofs.Common.{◌≡◌, ℕ, ◌+◌, ◌-◌, ◌*◌, ◌^◌, ◌<◌, ◌≤◌, true, false, ◌&&◌, List, length, get_or, drop, Some, None, decimal, sym, refl, ap, ◌∙◌, ⊎_elim, mul_comm, pow-suc, add-one, arith}
 use Rattle.std.specs.Char.{is_ascii_digit}
-use Rattle.std.specs.List.{list_all}
-use Rattle.std.specs.Result.{result_ok}
 use Rattle.std.specs.Str.{all_ascii_digits}
-use Rattle.std.specs.Str.Parse.{ParsesUnsigned}
-use Rattle.std.proofs.lemmas.Fmt.{IsAscii-from_digits, decimal_digit, decimal_nonempty, decimal-digits_value, digits_decimal, first_decimal, length-decimal-le, digits_value-decimal}
-use Rattle.std.proofs.lemmas.Str.{IsUtf8-from_ascii}
-use Rattle.std.proofs.lemmas.Str.Parse.{parse_gives, IsNumeralModel, numerals_by_fold, tells_all_ascii_digits, digits_value_short}
+use Rattle.std.proofs.lemmas.Fmt.{decimal_digit, decimal_nonempty, decimal-digits_value, digits_decimal, first_decimal, length-decimal-le, digits_value-decimal}
+use Rattle.std.proofs.lemmas.List.{at_drop_more, at_drop_all}
+use Rattle.std.proofs.lemmas.Str.Parse.{IsNumeralModel, numerals_by_fold, tells_all_ascii_digits, digits_value_short}
 use Rattle.std.proofs.lemmas.Bool.{cases_lt}
 use Rattle.std.proofs.lemmas.Bool.Decides.{nat_tests}
 use Rattle.keyboard.specs.Laws.{DecimalsBelow}
 use Rattle.keyboard.specs.Lines.{written_after, plain, numeral}
 
+-- i digits of w are read, and they write n
+pub record Read (w : List ℕ) (i n : ℕ) : Type 0 where
+  pub digits : all_ascii_digits (drop i w) ≡ all_ascii_digits w
+  pub value : written_after n (drop i w) ≡ written_after 0 w
+  pub small : n < 10 ^ i
+
+pub read_more : (w : List ℕ) (i n : ℕ) → Read w i n → i < length w → is_ascii_digit (get_or w i 0) ≡ true → Read w (i + 1) (10 * n + (get_or w i 0 - 48))
+read_more w i n h within digit =
+    record {
+      digits = let e : all_ascii_digits (drop i w) ≡ (is_ascii_digit (get_or w i 0) && all_ascii_digits (drop (i + 1) w)) = at_drop_more all_ascii_digits w i 0 within in sym (rw digit at e) ∙ h.digits;
+      value = let e = at_drop_more (written_after n) w i 0 within in sym e ∙ h.value;
+      small = rw (add-one, pow-suc) (grind (arith, nat_tests));
+    }
+
+-- a byte that is no digit
+pub refused : (w : List ℕ) (i n : ℕ) → Read w i n → i < length w → is_ascii_digit (get_or w i 0) ≡ false → None ≡ numeral w
+refused w i n h within other =
+    let e : all_ascii_digits (drop i w) ≡ (is_ascii_digit (get_or w i 0) && all_ascii_digits (drop (i + 1) w)) = at_drop_more all_ascii_digits w i 0 within in
+    let none : all_ascii_digits w ≡ false = sym h.digits ∙ rw other at e in
+    rw none
+
+-- every byte was a digit
+pub accepted : (w : List ℕ) (i n : ℕ) → Read w i n → length w ≤ i → plain w ≡ true → Some n ≡ numeral w
+accepted w i n h past shaped =
+    let all = sym h.digits ∙ at_drop_all all_ascii_digits w i past in
+    let value = sym (at_drop_all (written_after n) w i past) ∙ h.value in
+    rw (all, shaped, ← value)
+
 -- the shelf's laws of digits, for the numbers that are read here
 own : IsNumeralModel (λ w. all_ascii_digits w ≡ true) (written_after 0)
 own = numerals_by_fold _ tells_all_ascii_digits written_after (record { empty = λ n. refl; more = λ n c cs digit. rw (mul_comm 10 n) })
-
--- digits are text
-pub digits_are : (w : List ℕ) → list_all is_ascii_digit w ≡ all_ascii_digits w
-digits_are [] = refl
-digits_are (b ∷ bs) = rw (digits_are bs)
-
-pub digits_are_text : (w : List ℕ) → list_all is_ascii_digit w ≡ true → IsUtf8 w
-digits_are_text w all = IsUtf8-from_ascii w (IsAscii-from_digits w (own.to w (sym (digits_are w) ∙ all)))
-
--- and 1 to 5 of them parse as their number
-pub parsed : {E : Type 0} → (w t : List ℕ) (r : Result ℕ E) → ParsesUnsigned 64 10 t r → t ≡ w → list_all is_ascii_digit w ≡ true → plain w ≡ true → result_ok r ≡ numeral w
-parsed w t r h same all shaped =
-    let digits : all_ascii_digits w ≡ true = sym (digits_are w) ∙ all in
-    let some : 0 < length w = grind (arith, nat_tests) in
-    let few : length w ≤ 5 = grind (arith, nat_tests) in
-    let value = parse_gives own 64 w r (rw same at h) digits some (omega (arith, digits_value_short own w 5 digits few)) in
-    rw (value, digits, shaped)
 
 -- what a numeral is: digits, few of them, with no 0 in front, and their number
 numeral_parts : (w : List ℕ) (n : ℕ) → numeral w ≡ Some n → (all_ascii_digits w ≡ true) × (1 ≤ length w) × (length w ≤ 5) × (get_or w 0 0 ≡ 48 → length w ≡ 1) × (written_after 0 w ≡ n)

@@ -1,4 +1,6 @@
 // An answer line, as bytes.
+ghost use Rattle.std.specs.Prelude.{◌≤◌, length};
+
 use arrayvec::ArrayString;
 
 pub mod writing;
@@ -7,4 +9,5 @@ pub mod writing;
 #[derive(Drop)]
 pub struct Answer {
     line: ArrayString<32>,
+    ghost within: { length line.bytes ≤ 32 },
 }

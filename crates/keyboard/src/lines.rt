@@ -1,4 +1,6 @@
 // A line while it is typed. A line of 81 bytes is outside the forms whatever follows, so the first 81 suffice.
+ghost use Rattle.std.specs.Prelude.{◌≤◌, length};
+
 use arrayvec::ArrayVec;
 
 mod typing;
@@ -7,4 +9,5 @@ mod typing;
 #[derive(Drop)]
 pub struct Line {
     kept: ArrayVec<u8, 81>,
+    ghost within: { length kept.items ≤ 81 },
 }

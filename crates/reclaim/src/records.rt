@@ -1,6 +1,6 @@
 // What release and collection ask of a store.
-ghost use Rattle.std.specs.Prelude.{◌≤◌, ◌<◌, [], ◌≡◌, length, get_or, set, take, not, if◌then◌else◌};
-ghost use Rattle.kinds.specs.Rows.{Shape, Bounded, blank as blank_row};
+ghost use Rattle.std.specs.Prelude.{◌*◌, ◌≤◌, ◌<◌, [], ◌≡◌, length, get_or, set, take, not, if◌then◌else◌};
+ghost use Rattle.kinds.specs.Rows.{Shape, blank as blank_row};
 ghost use Rattle.model.specs.Collection.{kept_listed, list_taken};
 ghost use Rattle.model.specs.Release.{moved, turn, given_up};
 ghost use Rattle.model.specs.State.{head, Within, with_row};
@@ -67,11 +67,11 @@ pub trait Records: Stacked {
         ensures kept { Self.Stacked.stack self.new ≡ Self.Stacked.stack self.old }
         ensures aside { Self.Stacked.table self.new ≡ Self.Stacked.table self.old };
 
-    // The three numbers of the shape are within their bounds.
-    ghost bounded: { Bounded shape };
-
     // A walk goes over all links of the shape, and there are at most 16.
     ghost narrow: { Narrow shape Self.Stacked.width };
+
+    // The table has two entries for each record, which a scan needs; a walk asks for as many as it uses.
+    ghost room: { (s : Self) → 2 * length (Self.Stacked.progress s).store.rows ≤ length (Self.Stacked.stack s) };
 }
 
 // Reads the head of record `r`, alters it, and writes it back.

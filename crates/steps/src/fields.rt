@@ -1,6 +1,6 @@
 // What the calls ask of a store beside what release and collection do.
 ghost use Rattle.std.specs.Prelude.{◌≡◌, ◌<◌, ◌≤◌, length, slice_index};
-ghost use Rattle.kinds.specs.Rows.{with_link, with_byte};
+ghost use Rattle.kinds.specs.Rows.{Bounded, with_link, with_byte};
 ghost use Rattle.model.specs.Calls.{started};
 ghost use Rattle.model.specs.Release.{moved};
 ghost use Rattle.model.specs.State.{row, Within, in_use, with_row, with_front};
@@ -60,4 +60,7 @@ pub trait Fields: Records {
     fn start(&mut self)
         ensures after { Self.Stacked.progress self.new ≡ started (Self.Stacked.progress self.old).store }
         ensures kept { Self.Stacked.stack self.new ≡ Self.Stacked.stack self.old };
+
+    // The three numbers of the shape are within their bounds.
+    ghost bounded: { Bounded Self.Records.shape };
 }

@@ -1,5 +1,5 @@
 -- How many records a store over lent tables has, and what its tables mean once they are filled.
-use Rattle.std.proofs.Common.{◌≡◌, ℕ, ◌≤◌, zero, suc, min, List, [], ◌∷◌, ◌++◌, drop, map, length, take, replicate, sym, refl, ap, ◌∙◌, arith}
+use Rattle.std.proofs.Common.{◌≡◌, ℕ, ◌*◌, ◌≤◌, zero, suc, min, List, [], ◌∷◌, ◌++◌, drop, map, length, take, replicate, sym, refl, ap, ◌∙◌, arith}
 use Rattle.std.specs.List.{range_with_len}
 use Rattle.std.proofs.Math.Seq.{take-append_seam}
 use Rattle.std.proofs.lemmas.List.{length-take-le}
@@ -11,7 +11,32 @@ use Rattle.model.specs.Headers.{Header, header, free_header}
 use Rattle.model.specs.State.{State}
 use Rattle.model.specs.declared.heads.Head.{Head}
 use Rattle.store.specs.Sizes.{size_over}
+use Rattle.store.specs.Tables.{table_test, table_size}
 use Rattle.store.specs.declared.tables.Tables.{Tables}
+
+-- tables that pass their test have the lengths that a store wants
+pub record Fitting (n heads list work : ℕ) : Type 0 where
+  pub some : n ≡ 0 → ⊥
+  pub few : n ≤ 4095
+  pub heads_same : heads ≡ n
+  pub list_same : list ≡ n
+  pub work_room : 2 * n ≤ work
+
+module _ (n heads list work : ℕ) where
+  pub fitting : table_test n heads list work ≡ 0 → Fitting n heads list work
+  fitting e = record {
+    some = λ z. grind (arith, common_steps);
+    few = grind (arith, common_steps);
+    heads_same = grind (arith, common_steps);
+    list_same = grind (arith, common_steps);
+    work_room = grind (arith, common_steps);
+  }
+
+  pub size_fitting : table_test n heads list work ≡ 0 → table_size n heads list work ≡ n
+  size_fitting e = grind (arith, common_steps)
+
+  pub size_refused : (table_test n heads list work ≡ 0 → ⊥) → table_size n heads list work ≡ 0
+  size_refused e = grind (arith, common_steps)
 
 module _ {K : Type 0} (t : Tables K) where
   pub size_few : size_over t ≤ 4095

@@ -4,10 +4,12 @@ use Rattle.std.proofs.Math.Seq.{take-set-lt}
 use Rattle.std.proofs.lemmas.List.{map-set}
 use Rattle.kinds.specs.declared.kind.Kind.{Ghosts}
 use Rattle.model.specs.Calls.{answered, is_held}
+use Rattle.model.specs.Lawful.{Lawful}
 use Rattle.model.specs.declared.calls.Call.{Call}
 use Rattle.model.specs.declared.calls.Reply.{Reply}
 use Rattle.model.proofs.LawfulCalls.{held_from_test}
 use Rattle.steps.specs.Keeping.{LawfulStore as LawfulOf}
+use Rattle.steps.proofs.Keeps.{lawful_kept}
 use Rattle.store.proofs.Evidence.{lawful_shown}
 use Rattle.store.specs.Sizing.{size_is}
 use Rattle.store.specs.Meaning.{meaning, stacked, records, Roomy}
@@ -34,11 +36,11 @@ roomy s = record {
 pub lawful_store : {K : Type 0} (g : Ghosts K) (s : Store K g) → LawfulStore g s
 lawful_store g s = record { room = roomy s.contents; rules = lawful_shown g.shape (view g s) s.lawful }
 
--- a store that a call leaves is lawful, since it is a store
+-- what a call leaves as the call's definition says is lawful, tables of which no type says so yet
 pub lawful_leaving :
-    {K : Type 0} (g : Ghosts K) (before after : Store K g) (c : Call) (r : Reply) → LawfulStore g before → Roomy after.contents →
-    leaving r (view g after) ≡ answered g.shape (view g before) c → LawfulStore g after
-lawful_leaving g before after c r law room e = lawful_store g after
+    {K : Type 0} (g : Ghosts K) (before after : Contents K) (c : Call) (r : Reply) → Roomy before × Lawful g.shape (meaning g before) → Roomy after →
+    leaving r (meaning g after) ≡ answered g.shape (meaning g before) c → Roomy after × Lawful g.shape (meaning g after)
+lawful_leaving g before after c r law room e = (room, lawful_kept g.shape (meaning g before) (meaning g after) c r law.1 e)
 
 -- what the calls over any store ask for
 pub lawful_for : {K : Type 0} (g : Ghosts K) (s : Store K g) → LawfulOf (stacked g) (records g) s.contents

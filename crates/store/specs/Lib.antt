@@ -1,3 +1,4 @@
+pub mod Lent
 pub mod Meaning
 pub mod Sizes
 pub mod Tables

@@ -34,7 +34,9 @@ impl<'a, K: Kind> Contents<'a, K> {
         requires within { (1 ≤ r) × (r ≤ self.now.n) }
         ensures value { K.Kind.row result ≡ row (meaning K.Kind self.now) r }
     {
-        self.tables.records[r - 1]
+        // the slice by itself, since of that a proof knows that the place of each record fits the memory
+        let records = &*self.tables.records;
+        records[r - 1]
     }
 
     #[tactic(auto, using(crate::proofs::Views::set_front))]
@@ -44,6 +46,8 @@ impl<'a, K: Kind> Contents<'a, K> {
         ensures others { self.new.tables.work.now ≡ self.old.tables.work.now }
         ensures aside { self.new.tables.list.now ≡ self.old.tables.list.now }
     {
-        self.tables.records[r - 1] = x;
+        let tables = &mut self.tables;
+        let records = &mut *tables.records;
+        records[r - 1] = x;
     }
 }

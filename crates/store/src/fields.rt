@@ -41,7 +41,7 @@ impl<'a, K: Kind> Fields for Contents<'a, K> {
     }
 
     fn used(&self) -> usize {
-        count_used(self.tables.heads, self.n)
+        count_used(&self.tables.heads[..self.n])
     }
 
     fn given(&self) -> usize {
@@ -51,4 +51,6 @@ impl<'a, K: Kind> Fields for Contents<'a, K> {
     fn start(&mut self) {
         self.given = 0;
     }
+
+    ghost bounded = { K.bounded };
 }

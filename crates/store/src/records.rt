@@ -1,5 +1,6 @@
 // What a store holds, as what release and collection need.
 ghost use Rattle.std.specs.Prelude.{refl};
+ghost use Rattle.store.specs.Sizing.{two_entries};
 
 use crate::contents::Contents;
 use kinds::kind::Kind;
@@ -36,7 +37,9 @@ impl<'a, K: Kind> Records for Contents<'a, K> {
     }
 
     fn candidate(&self, i: usize) -> usize {
-        usize::from(self.tables.list[i])
+        // the slice by itself, as in `Contents::record`
+        let list = &*self.tables.list;
+        usize::from(list[i])
     }
 
     fn push(&mut self, r: usize) {
@@ -49,7 +52,7 @@ impl<'a, K: Kind> Records for Contents<'a, K> {
         self.listed = 0;
     }
 
-    ghost bounded = { K.bounded };
-
     ghost narrow = { (refl, K.bounded.few_links) };
+
+    ghost room = { λ s. two_entries _ s };
 }

@@ -1,6 +1,6 @@
 // What a store holds, as what a walk needs: links, and the work table as its stack.
 ghost use Rattle.store.specs.Meaning.{progress as progress_of};
-ghost use Rattle.store.specs.Sizing.{few_rows, two_entries};
+ghost use Rattle.store.specs.Sizing.{few_rows};
 
 use crate::contents::Contents;
 use kinds::kind::Kind;
@@ -24,16 +24,17 @@ impl<'a, K: Kind> Stacked for Contents<'a, K> {
     }
 
     fn entry(&self, at: usize) -> usize {
-        // `as`, since there is no `From<u32>` for a `usize`
-        self.tables.work[at] as usize
+        // `as`, since there is no `From<u32>` for a `usize`; the slice by itself, as in `Contents::record`
+        let work = &*self.tables.work;
+        work[at] as usize
     }
 
     fn put(&mut self, at: usize, n: usize) {
         // `as`: an entry is known to have 32 bits
-        self.tables.work[at] = n as u32;
+        let tables = &mut self.tables;
+        let work = &mut *tables.work;
+        work[at] = n as u32;
     }
 
     ghost few = { λ s. few_rows _ s };
-
-    ghost room = { λ s. two_entries _ s };
 }

@@ -7,6 +7,7 @@ use crate::makes::check_tables;
 use kinds::kind::Kind;
 use model::heads::Head;
 use model::refusals::Refusal;
+use std::marker::Model;
 
 // The four tables of a store. There is no heap: the host lends each as it is.
 #[derive(Drop)]
@@ -17,6 +18,16 @@ pub struct Tables<'a, K> {
     pub list: &'a mut [u16],
     // the stack of a walk
     pub work: &'a mut [u32],
+}
+
+// A clause sees all four, and nothing else: it is here because a value that holds a struct with slices, and no such view of
+// it, could not be let go by a function that takes it.
+impl<'a, K> Model for Tables<'a, K> {
+    ghost use Rattle.store.specs.Lent.{Lent};
+
+    ghost Value = { Lent K };
+
+    ghost view = { λ t. record { records = t.records; heads = t.heads; list = t.list; work = t.work } };
 }
 
 impl<'a, K: Kind> Tables<'a, K> {

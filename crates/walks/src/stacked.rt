@@ -1,5 +1,5 @@
 // What a walk asks of a store.
-ghost use Rattle.std.specs.Prelude.{◌≡◌, ℕ, ◌*◌, ◌^◌, ◌<◌, ◌≤◌, List, [], length, slice_index, slice_set};
+ghost use Rattle.std.specs.Prelude.{◌≡◌, ℕ, ◌^◌, ◌<◌, ◌≤◌, List, [], length, slice_index, slice_set};
 ghost use Rattle.model.specs.State.{Within, row};
 ghost use Rattle.model.specs.Walk.{Progress};
 
@@ -43,7 +43,4 @@ pub trait Stacked {
 
     // There are as many records as links can name, at most.
     ghost few: { (s : Self) → length (progress s).store.rows ≤ 4095 };
-
-    // The table has two entries for each record.
-    ghost room: { (s : Self) → 2 * length (progress s).store.rows ≤ length (stack s) };
 }

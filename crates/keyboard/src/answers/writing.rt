@@ -13,6 +13,7 @@ impl Answer {
     // The bytes of the line.
     pub fn bytes(&self) -> &[u8]
         ensures value { result.now ≡ line_of self.now }
+        ensures fits { length result.now ≤ 32 }
     {
         self.line.as_str().as_bytes()
     }

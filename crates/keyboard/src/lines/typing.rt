@@ -1,5 +1,5 @@
 // What is done with a line that is being typed.
-ghost use Rattle.std.specs.Prelude.{◌≡◌, [], ◌∷◌, ◌++◌, length, take, ◌==◌};
+ghost use Rattle.std.specs.Prelude.{◌≡◌, ◌≤◌, [], ◌∷◌, ◌++◌, length, take, ◌==◌};
 ghost use Rattle.keyboard.specs.Buffers.{text};
 
 use super::Line;
@@ -42,6 +42,7 @@ impl Line {
     // The bytes that are kept, as `command` takes them.
     pub fn bytes(&self) -> &[u8]
         ensures value { result.now ≡ text self.now }
+        ensures fits { length result.now ≤ 81 }
     {
         self.kept.as_slice()
     }

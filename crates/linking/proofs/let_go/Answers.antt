@@ -1,4 +1,4 @@
-use Rattle.std.proofs.Common.{◌≡◌, [], ◌∷◌, sym, refl, ap, ◌∙◌, subst}
+use Rattle.std.proofs.Common.{rules, ◌≡◌, [], ◌∷◌, sym, refl, ap, ◌∙◌, subst}
 use Rattle.model.specs.Calls.{started, given_ups, drop_answer}
 use Rattle.model.specs.Release.{lower, turn}
 use Rattle.model.specs.Releasing.{Releasing, FewGiven}
@@ -23,7 +23,7 @@ lower-requires g c =
     let v = state S c.args.store.now in
     let r = c.args.r in
     let begun : S.progress c.alter_head.new.store ≡ started (with_head v r (held_less (head v r))) =
-    turned held_less _ _ r (λ a b p. p.1) c.alter_head.ensures.after ∙ ap (λ y. turn y r (held_less (head y.store r))) c.start.ensures.after in
+    turned held_less _ _ r (λ a b p. search (rules, p)) c.alter_head.ensures.after ∙ ap (λ y. turn y r (held_less (head y.store r))) c.start.ensures.after in
     let owing = owing_drop k v r c.requires.lawful (held_from_test v r c.requires.held) in
     record {
       owing = subst (λ y. Releasing k y (follow r ∷ [])) (sym begun) owing;
@@ -37,7 +37,7 @@ returns g c =
     let v = state S c.args.store.now in
     let r = c.args.r in
     let begun : S.progress c.alter_head.new.store ≡ started (with_head v r (held_less (head v r))) =
-    turned held_less _ _ r (λ a b p. p.1) c.alter_head.ensures.after ∙ ap (λ y. turn y r (held_less (head y.store r))) c.start.ensures.after in
+    turned held_less _ _ r (λ a b p. search (rules, p)) c.alter_head.ensures.after ∙ ap (λ y. turn y r (held_less (head y.store r))) c.start.ensures.after in
     let after = c.lower.ensures.after ∙ ap (λ y. lower k y r) begun in
     let answer =
     ap (λ n. leaving (Number n) (state S c.lower.new.store)) c.given.ensures.value ∙ ap given_ups after

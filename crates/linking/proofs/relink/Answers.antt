@@ -40,8 +40,8 @@ raise-requires g c =
             arith,
             ap (λ y. (head y.store t).count) e,
             ⊎_elim {C = (head v t).count < 4294967295}
-                (λ z. omega (arith, ap (λ y. (head v y).count) z, count_small k v c.requires.lawful g.met.S.Records.bounded 1 first))
-                (λ h. omega (arith, count_small k v c.requires.lawful g.met.S.Records.bounded t h.0)) p.1,
+                (λ z. omega (arith, ap (λ y. (head v y).count) z, count_small k v c.requires.lawful g.met.S.Fields.bounded 1 first))
+                (λ h. omega (arith, count_small k v c.requires.lawful g.met.S.Fields.bounded t h.0)) p.1,
           );
     }
 

@@ -23,7 +23,7 @@ walk-requires g c =
     let I = scan_begins k m.0 start y c.candidate-root.result _ L in
     record {
       fits = I;
-      stack = omega (arith, g.met.S.Stacked.room c.loop-i.store);
+      stack = omega (arith, g.met.S.Records.room c.loop-i.store);
     }
 
 pub loop-i-preserved : goal.loop-i-preserved

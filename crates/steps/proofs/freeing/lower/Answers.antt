@@ -14,5 +14,5 @@ walk-requires g c =
     let fits = subst (λ z. Releasing k z (visit t ∷ []) × FewGiven z) (sym e.meaning) f.fits in
     record {
       fits = fits;
-      stack = omega (arith, g.met.S.Stacked.room c.follow.new.store);
+      stack = omega (arith, g.met.S.Records.room c.follow.new.store);
     }

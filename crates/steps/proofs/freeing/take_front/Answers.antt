@@ -1,4 +1,4 @@
-use Rattle.std.proofs.Common.{◌≡◌, sym, ap, ◌∙◌, subst, arith}
+use Rattle.std.proofs.Common.{rules, ◌≡◌, sym, ap, ◌∙◌, subst, arith}
 use Rattle.model.specs.Calls.{taken}
 use Rattle.model.specs.State.{Within, with_head, with_front}
 use Rattle.model.specs.Headers.{made_header}
@@ -31,7 +31,7 @@ returns g c =
     let r = c.args.r in
     let after : z ≡ taken v r =
     ap (λ y. y.store) c.set_front.ensures.after
-    ∙ ap (with_front (g.S.Stacked.progress c.write_head.new.self).store) c.from.ensures
+    ∙ ap (with_front (g.S.Stacked.progress c.write_head.new.self).store) (search rules)
     ∙ ap (λ y. with_front y.store c.read_head-next.result.next) c.write_head.ensures.after
     ∙ ap (λ h. with_front (with_head v r h) c.read_head-next.result.next) c.made.ensures.value
     ∙ ap (λ h. with_front (with_head v r made_header) h.next) c.read_head-next.ensures.value in

@@ -16,7 +16,7 @@ raised-requires g c =
     record {
       lawful = omega (
         arith,
-        count_small g.S.Records.shape (state g.S.Stacked s) c.requires.lawful g.met.S.Records.bounded c.args.r c.requires.used.0,
+        count_small g.S.Records.shape (state g.S.Stacked s) c.requires.lawful g.met.S.Fields.bounded c.args.r c.requires.used.0,
         ap (λ h. h.count) c.read_head-head.ensures.value,
       );
     }
